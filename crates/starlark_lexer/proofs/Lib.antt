@@ -1,0 +1,11 @@
+pub mod Runs
+pub mod Gaps
+pub mod JoinedRules
+pub mod Longest
+pub mod Cuts
+pub mod Machine
+pub mod Rules
+pub mod Whole
+pub mod Hands
+pub mod Joined
+pub mod Ordered

@@ -1,0 +1,13 @@
+use Rattle.std.proofs.Common.{◌≤◌, ◌^◌, arith, lit<}
+use Rattle.std.proofs.Math.Nat.{pow-le-pow_right}
+use Rattle.starlark_lexer.proofs.scan.value.Goals as goal
+
+pub overflow_mul-value : goal.overflow_mul-value
+overflow_mul-value c =
+    let most : 10 ^ c.loop-digit.digit-index ≤ 10 ^ 8 = pow-le-pow_right (lit< tt) {i = c.loop-digit.digit-index} {j = 8} (omega arith) in
+    omega arith
+
+pub overflow_add-value : goal.overflow_add-value
+overflow_add-value c =
+    let most : 10 ^ c.loop-digit.digit-index ≤ 10 ^ 8 = pow-le-pow_right (lit< tt) {i = c.loop-digit.digit-index} {j = 8} (omega arith) in
+    omega arith

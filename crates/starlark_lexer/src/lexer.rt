@@ -1,0 +1,130 @@
+//! The lexer, which hands out one lexeme at a time.
+
+ghost use Rattle.std.specs.Prelude.{◌≡◌, ◌≤◌, ◌+◌, ◌*◌, length};
+ghost use Rattle.starlark_lexer.specs.Lex.{Lex, start};
+ghost use Rattle.starlark_lexer.specs.Model.{Gives, Within};
+ghost use Rattle.starlark_lexer.specs.Parts.{IsStretch};
+ghost use Rattle.starlark_place.specs.Place.{extent, file_place};
+ghost use Rattle.starlark_place.specs.Diagnostic.{Refuses};
+
+use crate::dialect::Dialect;
+use crate::parts::{Fault, Parts, next};
+use crate::scan::State;
+use crate::token::{LexemeError, Token};
+use starlark_place::codemap::CodeMap;
+use starlark_place::diagnostic::Refusal;
+use starlark_place::pos::{Pos, Span};
+use std::alloc::Global;
+use std::marker::Model;
+
+/// Why a text is refused: the error with its place, or want of memory.
+pub type EvalException = Refusal<LexemeError>;
+
+/// Cuts a text into lexemes. A clause sees the items and the fault that are left, the length of the
+/// text, the reads so far and the source.
+#[derive(Drop)]
+pub struct Lexer<'a> {
+    parts: Parts<'a>,
+    codemap: CodeMap,
+}
+
+impl<'a> Model for Lexer<'a> {
+    ghost use Rattle.starlark_lexer.specs.Model.{Reading, view_of, IsLexer};
+
+    ghost Value = { Reading };
+
+    ghost view = { view_of };
+
+    ghost invariant = { IsLexer };
+}
+
+impl<'a> Lexer<'a> {
+    /// Stands at the beginning of the input, which is the map's source. The dialect changes no lexeme.
+    pub fn new(alloc: Global, input: &'a str, _dialect: &Dialect, codemap: CodeMap) -> Lexer<'a>
+        requires { codemap.source ≡ input.now }
+        ensures left { Lex start input.now result.left }
+        ensures size { result.size ≡ length input.now }
+        ensures fits { result.size ≤ 4294967295 }
+        ensures reads { result.reads ≡ 0 }
+        ensures file { result.file ≡ codemap }
+    {
+        prove!(codemap.source().len() == input.len());
+        Lexer {
+            parts: Parts {
+                alloc,
+                text: input,
+                state: State {
+                    place: 0,
+                    opened: 0,
+                    closed: 0,
+                    fresh: true,
+                },
+                over: false,
+                reads: 0,
+            },
+            codemap,
+        }
+    }
+
+    /// The next lexeme with its beginning and end in bytes, or the fault, or `Memory` where memory runs out.
+    /// After the first `Err` it answers `None`, as behind the last lexeme.
+    pub fn next(&mut self) -> Option<Result<(usize, Token, usize), EvalException>>
+        ensures gives { Gives self.old.file self.old.left result self.new.left }
+        ensures within { Within self.old.size result }
+        ensures size { self.new.size ≡ self.old.size }
+        ensures fits { self.new.size ≤ 4294967295 }
+        ensures file { self.new.file ≡ self.old.file }
+    {
+        match next(&mut self.parts)? {
+            Ok(item) => Some(Ok(item)),
+            Err(Fault::Lexeme(begin, error, end)) => Some(Err(refusal(
+                self.parts.alloc,
+                error,
+                begin,
+                end,
+                &self.codemap,
+            ))),
+            Err(Fault::Memory) => Some(Err(Refusal::Memory)),
+        }
+    }
+
+    /// How many bytes were looked at so far: a byte counts each time.
+    pub fn reads(&self) -> u64
+        ensures value { result ≡ self.now.reads }
+        ensures most { result ≤ 16 * (self.now.size + 1) }
+    {
+        self.parts.reads
+    }
+}
+
+impl<'a> Iterator for Lexer<'a> {
+    ghost use Rattle.std.specs.Iterator.{at_most};
+    ghost use Rattle.starlark_lexer.specs.Items.{answers};
+    ghost use Rattle.starlark_lexer.specs.Model.{IsNext};
+
+    type Item = Result<(usize, Token, usize), EvalException>;
+
+    ghost next_gives = { IsNext };
+
+    ghost remaining = { λ s. at_most (answers s.left) };
+
+    fn next(&mut self) -> Option<Result<(usize, Token, usize), EvalException>> {
+        Lexer::next(self)
+    }
+}
+
+/// The error at a stretch of the source.
+fn refusal(
+    alloc: Global,
+    error: LexemeError,
+    begin: usize,
+    end: usize,
+    codemap: &CodeMap,
+) -> EvalException
+    requires stretch { IsStretch codemap.now.source begin end }
+    requires fits { length codemap.now.source ≤ 4294967295 }
+    ensures { Refuses error (file_place codemap.now (extent begin end)) result }
+{
+    let span = Span::new(Pos::new(begin as u32), Pos::new(end as u32));
+    Refusal::new(alloc, error, span, codemap)
+}

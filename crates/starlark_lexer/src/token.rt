@@ -1,0 +1,69 @@
+//! What a lexer hands out.
+
+use thiserror::Error;
+
+/// The value of an integer literal.
+#[derive(Debug, Drop, PartialEq, Eq)]
+pub enum TokenInt {
+    /// One that fits 32 bits.
+    I32(i32),
+    /// Any other: its digits in lower case without leading zeros, and their radix.
+    BigInt {
+        digits: String,
+        negative: bool,
+        radix: u32,
+    },
+}
+
+/// A lexeme.
+#[derive(Debug, Drop, PartialEq, Eq)]
+pub enum Token {
+    Newline,
+    Identifier(String),
+    Int(TokenInt),
+    Equal,
+    OpeningRound,
+    ClosingRound,
+    Comma,
+}
+
+/// Why a text is refused.
+#[derive(Clone, Copy, Debug, PartialEq, Eq, Error)]
+pub enum LexemeError {
+    /// A line begins with a blank that may not stand there.
+    #[error("incorrect indentation")]
+    Indentation,
+    /// A character, a word or a run of digits that is no lexeme.
+    #[error("invalid input")]
+    InvalidInput,
+    /// A tab among the blanks that a line begins with.
+    #[error("tabs are not allowed")]
+    InvalidTab,
+    /// A literal without its closing quote.
+    #[error("unfinished string literal")]
+    UnfinishedStringLiteral,
+    /// A backslash and what stands behind it are no escape.
+    #[error("invalid string escape sequence")]
+    InvalidEscapeSequence,
+    /// Given by no call.
+    #[error("missing string escape sequence")]
+    EmptyEscapeSequence,
+    /// A word that is kept for later use.
+    #[error("cannot use reserved keyword")]
+    ReservedKeyword,
+    /// An integer with a leading zero.
+    #[error("integer cannot have leading 0")]
+    StartsZero,
+    /// Given by no call.
+    #[error("cannot parse integer")]
+    IntParse,
+    /// Given by no call.
+    #[error("cannot parse")]
+    CannotParse,
+    /// Given by no call.
+    #[error("comment span is computed incorrectly")]
+    CommentSpanComputedIncorrectly,
+    /// Given by no call.
+    #[error("unfinished f-string expression")]
+    UnfinishedFStringExpression,
+}
