@@ -13,7 +13,7 @@ use Rattle.starlark_lexer.specs.Items.{Lexeme, newline, Item, item, Lexed, with_
 use Rattle.starlark_lexer.specs.Classes.{Meaning, token, when, meaning, begins_word, is_blank, is_word_byte, is_continuation, IsLexeme, leading, width, blanks, is_indented}
 use Rattle.starlark_lexer.specs.Lex.{Past, Move, on, over, Step, Lex, goes_on, is_over, start, IsBalanced, IsMeasured, moved, entered, gives, ends, blank_line, last_line, misfits, goes_in, passes, joins, ends_line, lexeme, faults, ends_text}
 use Rattle.starlark_lexer.specs.Joining.{IsClosed, EndsLine, IsJoined, item_on, stop_on, lexed_on}
-use Rattle.starlark_lexer.proofs.JoinedRules.{word_rule, digit_rule, other_rule, mark_more, blank_none}
+use Rattle.starlark_lexer.proofs.FirstBytes.{word_rule, digit_rule, other_rule, mark_more, blank_none}
 
 -- ---- a lexeme of a text that ends a line is one of the longer text too
 

@@ -1,6 +1,6 @@
 pub mod Runs
 pub mod Gaps
-pub mod JoinedRules
+pub mod FirstBytes
 pub mod Longest
 pub mod Cuts
 pub mod Machine
@@ -9,3 +9,4 @@ pub mod Whole
 pub mod Hands
 pub mod Joined
 pub mod Ordered
+pub mod Covered

@@ -12,7 +12,7 @@ use Rattle.starlark_lexer.specs.declared.scan.Found.TheVariants as found
 use Rattle.starlark_lexer.specs.Classes.{Meaning, token, refused, when, meaning, is_blank, is_word_byte, begins_word, is_continuation, word_meaning, digits_meaning, is_keyword, is_reserved, is_number, IsLexeme}
 use Rattle.starlark_lexer.specs.Scan.{is_in, scan, lexeme_from}
 use Rattle.starlark_lexer.specs.Scan as scans
-use Rattle.starlark_lexer.proofs.JoinedRules.{word_rule, digit_rule, other_rule, mark_more}
+use Rattle.starlark_lexer.proofs.FirstBytes.{word_rule, digit_rule, other_rule, mark_more}
 use Rattle.starlark_lexer.proofs.Runs.{begins_goes}
 use Rattle.starlark_lexer.proofs.Runs.{list_all_run}
 

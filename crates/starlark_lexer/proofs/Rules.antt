@@ -20,7 +20,7 @@ use Rattle.starlark_lexer.specs.Classes.{Meaning, token, refused, meaning, is_bl
 use Rattle.starlark_lexer.specs.Lex as rules
 use Rattle.starlark_lexer.specs.Lex.{Past, Move, on, over, gives, refuses, entered, ends, moved, IsBalanced, IsMeasured, Step}
 use Rattle.starlark_lexer.specs.Scan.{At, Act, goes, stops, act, skip, goes_by, here, scan, turn_of, line_from, line_turn, step, pass, is_joined, opens, closes, lexeme_from}
-use Rattle.starlark_lexer.proofs.JoinedRules.{blank_none}
+use Rattle.starlark_lexer.proofs.FirstBytes.{blank_none}
 use Rattle.starlark_lexer.proofs.Longest.{scan_lexeme, Scanned}
 use Rattle.starlark_lexer.proofs.Machine.{step_fresh, step_within}
 

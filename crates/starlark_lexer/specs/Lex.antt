@@ -15,6 +15,7 @@ pub record Past : Type 0 where
   -- whether a line begins here
   pub fresh : Bool
 
+-- before the first byte
 abbrev pub start : Past
 start = record { place = 0; items = []; lines = []; fresh = true }
 
@@ -57,6 +58,7 @@ pub record IsMeasured (p : Past) (rest : List ℕ) : Type 0 where
   pub stands : drop (leading rest) rest ≡ first ∷ more
   pub not_line : first ≢ 10
 
+-- What comes at a place where that stands before it and this is the rest of the text.
 pub data Step : Past → List ℕ → Move → Type 0 where
   -- a line of blanks alone
   blank_line : (p : Past) (rest more : List ℕ) → p.fresh ≡ true → drop (leading rest) rest ≡ 10 ∷ more

@@ -11,6 +11,7 @@ use Rattle.starlark_lexer.specs.declared.lexer.Lexer.TheInside.{Inside}
 use Rattle.starlark_lexer.specs.Items.{Lexed, nothing, lexeme_of, with_item, Stop, answers}
 use Rattle.starlark_lexer.specs.Parts.{left, IsWhole, IsPaid}
 
+-- a lexer as its callers see it
 pub record Reading : Type 0 where
   -- what is still to be handed out
   pub left : Lexed
@@ -21,9 +22,11 @@ pub record Reading : Type 0 where
   -- the source that faults name
   pub file : File
 
+-- a lexer as it is in memory
 abbrev pub view_of : Inside → Reading
 view_of a = record { left = left a.parts; size = length a.parts.text.now; reads = a.parts.reads; file = a.codemap }
 
+-- what holds of a lexer in memory between calls
 pub record IsLexer (a : Inside) : Type 0 where
   pub whole : IsWhole a.parts
   pub paid : IsPaid a.parts

@@ -10,6 +10,7 @@ use Rattle.starlark_lexer.specs.declared.parts.Parts.{Parts}
 use Rattle.starlark_lexer.specs.Items.{Lexed, nothing, lexeme_of, with_item, with_fault, answers}
 use Rattle.starlark_lexer.specs.Scan.{At, left_at, act, step, pass, is_joined}
 
+-- where the code stands
 abbrev pub at : Parts → At
 at a = record { state = a.state; rest = drop a.state.place a.text.now }
 
@@ -17,6 +18,7 @@ at a = record { state = a.state; rest = drop a.state.place a.text.now }
 abbrev pub left : Parts → Lexed
 left a = if a.over then nothing else left_at (at a)
 
+-- the place lies in the text, and no count is above it
 pub record IsWhole (a : Parts) : Type 0 where
   pub within : a.state.place ≤ length a.text.now
   pub opened : a.state.opened ≤ a.state.place

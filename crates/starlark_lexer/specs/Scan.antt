@@ -15,6 +15,7 @@ use Rattle.starlark_lexer.specs.declared.token.LexemeError.TheVariants.{InvalidI
 use Rattle.starlark_lexer.specs.Items.{Lexeme, small, newline, identifier, integer, equal, opening_round, closing_round, comma, Item, item, Lexed, nothing, with_item, with_items, with_fault}
 use Rattle.starlark_lexer.specs.Classes as classes
 
+-- the bytes of a class
 abbrev pub is_in : Class → ℕ → Bool
 is_in class.Blank b = classes.is_blank b
 is_in class.Word b = classes.is_word_byte b
@@ -41,6 +42,7 @@ scan bytes =
     else (if nat_lt (slice_index bytes 0) 128 then (mark (slice_index bytes 0), 1)
     else (found.Fault InvalidInput, 1 + prefix_len (is_in class.Continuation) (drop 1 bytes))))
 
+-- what a lexeme or fault at the place comes as
 abbrev pub turn_of : Found × ℕ → Turn
 turn_of (found.Kind k, n) = turns.Gives 0 k n n false
 turn_of (found.Fault e, n) = turns.Fault 0 e n
@@ -68,17 +70,21 @@ line_from indented g (b ∷ bs) =
     if b == 10 then turns.Gives g kind.Newline 1 (g + 1) true
     else (if indented then turns.Fault 0 Indentation g else turns.Goes g)
 
+-- what the line that begins here comes with
 abbrev pub line_turn : List ℕ → Turn
 line_turn rest = line_from (classes.is_indented rest) (classes.leading rest) (drop (classes.leading rest) rest)
 
+-- how many brackets a lexeme opens
 abbrev pub opens : Kind → ℕ
 opens kind.OpeningRound = 1
 opens _ = 0
 
+-- how many it closes
 abbrev pub closes : Kind → ℕ
 closes kind.ClosingRound = 1
 closes _ = 0
 
+-- the state behind a lexeme
 abbrev pub after : State → Kind → ℕ → Bool → State
 after s k next fresh = record {
   place = s.place + next;
@@ -107,12 +113,14 @@ pub data Act : Type 0 where
   goes : List Item → At → Act
   stops : Lexed → Act
 
+-- n bytes on, within a line
 abbrev pub skip : ℕ → At → At
 skip n c = record {
   state = record { place = c.state.place + n; opened = c.state.opened; closed = c.state.closed; fresh = false };
   rest = drop n c.rest;
 }
 
+-- what is done at a turn
 abbrev pub act : Turn → At → Act
 act (turns.End i) c = stops (with_item (c.state.place + length c.rest) newline (c.state.place + length c.rest) nothing)
 act (turns.Fault i e n) c = stops (with_fault (c.state.place + i) e (c.state.place + i + n))
@@ -125,13 +133,16 @@ act (turns.Goes g) c = goes [] (skip g c)
 abbrev pub is_joined : State → Bool
 is_joined s = not (s.opened == s.closed)
 
+-- what is done where n bytes are passed over at once
 abbrev pub goes_by : ℕ → At → Act
 goes_by zero c = act (here c.rest) c
 goes_by (suc n) c = goes [] (skip (suc n) c)
 
+-- one step
 unfoldable pub step : At → Act
 step c = if c.state.fresh then act (line_turn c.rest) c else goes_by (pass (is_joined c.state) c.rest) c
 
+-- a step, and what comes behind it
 abbrev pub follow : Act → (At → Lexed) → Lexed
 follow (goes xs d) k = with_items xs (k d)
 follow (stops l) k = l

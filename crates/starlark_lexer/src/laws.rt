@@ -4,7 +4,7 @@ ghost use Rattle.std.specs.Prelude.{◌+◌, ◌≡◌, ◌≤◌, List, length,
 ghost use Rattle.starlark_lexer.specs.Items.{Lexed, closing_item, opening_item};
 ghost use Rattle.starlark_lexer.specs.Joining.{IsClosed, IsJoined};
 ghost use Rattle.starlark_lexer.specs.Lex.{Lex, start};
-ghost use Rattle.starlark_lexer.specs.Order.{InOrder};
+ghost use Rattle.starlark_lexer.specs.Order.{Covers, InOrder};
 
 /// A text has at most one reading.
 pub fn one_reading()
@@ -22,4 +22,9 @@ pub fn joined_texts()
 pub fn in_order()
     ensures order { (text : List ℕ) (l : Lexed) → Lex start text l → InOrder 0 (length text) l.items l.fault }
     ensures few { (text : List ℕ) (l : Lexed) → Lex start text l → length l.items ≤ length text + 1 }
+{}
+
+/// Before, between and behind items, up to the fault, stand only blanks and line feeds.
+pub fn nothing_left_out()
+    ensures { (text : List ℕ) (l : Lexed) → Lex start text l → Covers text 0 l.items l.fault }
 {}

@@ -18,12 +18,19 @@ pub enum TokenInt {
 /// A lexeme.
 #[derive(Debug, Drop, PartialEq, Eq)]
 pub enum Token {
+    /// The end of a line, or of the text.
     Newline,
+    /// A name.
     Identifier(String),
+    /// An integer literal.
     Int(TokenInt),
+    /// `=`
     Equal,
+    /// `(`
     OpeningRound,
+    /// `)`
     ClosingRound,
+    /// `,`
     Comma,
 }
 

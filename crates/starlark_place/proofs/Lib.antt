@@ -1,1 +1,3 @@
+pub mod Characters
+pub mod Counts
 pub mod Lines

@@ -1,5 +1,5 @@
 -- The beginnings of lines: how many there are up to a place, and what stands behind the last of them.
-use Rattle.std.proofs.Common.{◌≡◌, ◌<◌, ◌≤◌, ℕ, ◌+◌, ◌-◌, Bool, true, false, cond, List, [], ◌∷◌, length, take, drop, get_or, refl, ap, sym, ◌∙◌, arith, zero, suc, add-one, inl, inr, eqb, leb, subst}
+use Rattle.std.proofs.Common.{◌≡◌, ◌<◌, ◌≤◌, ℕ, ◌+◌, ◌-◌, Bool, true, false, not, cond, List, [], ◌∷◌, length, take, drop, get_or, refl, ap, sym, ◌∙◌, arith, zero, suc, add-one, inl, inr, eqb, leb, subst}
 use Rattle.std.specs.List.{count_by}
 use Rattle.std.proofs.lemmas.Bool.{cases_Bool, false≢true, cases_lt}
 use Rattle.std.proofs.lemmas.Bool.Decides.{nat_tests}
@@ -9,7 +9,7 @@ use Rattle.std.proofs.lemmas.List.Sums.{sum_by-cons}
 use Rattle.std.specs.Prelude.{◌⊎◌}
 use Rattle.std.specs.Str.{IsUtf8, IsCharBoundary}
 use Rattle.std.proofs.lemmas.Str.{IsCharBoundary-start, IsCharBoundary-end, IsCharBoundary-after_ascii}
-use Rattle.starlark_place.specs.Place.{is_feed, last_line, line_begin}
+use Rattle.starlark_place.specs.Place.{is_feed, is_continuation, characters, last_line, line_begin}
 use Rattle.starlark_place.specs.Lines.{behind_feeds, line_begins}
 
 pub behind_feeds-more : (text : List ℕ) (i : ℕ) → i < length text → behind_feeds i (drop i text) ≡ cond (is_feed (get_or text i 0)) ((i + 1) ∷ behind_feeds (i + 1) (drop (i + 1) text)) (behind_feeds (i + 1) (drop (i + 1) text))
@@ -256,3 +256,51 @@ boundary_at text (suc j) u fits h =
 -- no character is cut there
 pub line_begin-boundary : (text : List ℕ) (n : ℕ) → IsUtf8 text → IsCharBoundary text (line_begin n text)
 line_begin-boundary text n u = boundary_at text (line_begin n text) u (line_begin-le text n) (line_begin-behind text n)
+
+-- line feeds never get fewer
+pub feeds-more : (text : List ℕ) (i j : ℕ) → i ≤ j → count_by is_feed (take i text) ≤ count_by is_feed (take j text)
+feeds-more text zero j h = omega arith
+feeds-more text (suc i) zero h = absurd (omega arith)
+feeds-more [] (suc i) (suc j) h = omega arith
+feeds-more (b ∷ bs) (suc i) (suc j) h =
+    let m = feeds-more bs i j (omega arith) in
+    rw (feeds-cons b (take i bs), feeds-cons b (take j bs)) (elim (cases_Bool (eqb b 10)) [ inl e ↦ rw e (omega arith) | inr e ↦ rw e (omega arith) ])
+
+characters-more : (text : List ℕ) (i j : ℕ) → i ≤ j → characters (take i text) ≤ characters (take j text)
+characters-more text zero j h = omega arith
+characters-more text (suc i) zero h = absurd (omega arith)
+characters-more [] (suc i) (suc j) h = omega arith
+characters-more (b ∷ bs) (suc i) (suc j) h =
+    let m = characters-more bs i j (omega arith) in
+    rw (sum_by-cons (λ x. cond (not (is_continuation x)) 1 0) b (take i bs), sum_by-cons (λ x. cond (not (is_continuation x)) 1 0) b (take j bs)) (omega arith)
+
+same_feeds : (b : ℕ) (xs ys : List ℕ) → count_by is_feed (b ∷ xs) ≡ count_by is_feed (b ∷ ys) → count_by is_feed xs ≡ count_by is_feed ys
+same_feeds b xs ys =
+    rw (feeds-cons b xs, feeds-cons b ys) (elim (cases_Bool (eqb b 10)) [ inl e ↦ rw e (λ h. omega arith) | inr e ↦ rw e (λ h. h) ])
+
+columns-step : (b : ℕ) (xs ys : List ℕ) → characters xs ≤ characters ys → count_by is_feed xs ≡ count_by is_feed ys → (count_by is_feed xs ≡ count_by is_feed ys → characters (last_line xs) ≤ characters (last_line ys)) → characters (last_line (b ∷ xs)) ≤ characters (last_line (b ∷ ys))
+columns-step b xs ys more same later =
+    elim (cases_Bool (eqb (count_by is_feed ys) 0)) [
+      | inl z ↦ rw (same, z) (elim (cases_Bool (eqb b 10)) [
+        | inl e ↦ rw e more
+        | inr e ↦ rw e (rw (sum_by-cons (λ x. cond (not (is_continuation x)) 1 0) b xs, sum_by-cons (λ x. cond (not (is_continuation x)) 1 0) b ys) (omega arith))
+      ])
+      | inr z ↦ rw (same, z) (later same)
+    ]
+
+-- nor columns within a line
+pub columns-more : (text : List ℕ) (i j : ℕ) → i ≤ j → count_by is_feed (take i text) ≡ count_by is_feed (take j text) → characters (last_line (take i text)) ≤ characters (last_line (take j text))
+columns-more text zero j h = λ e. omega arith
+columns-more text (suc i) zero h = absurd (omega arith)
+columns-more [] (suc i) (suc j) h = λ e. omega arith
+columns-more (b ∷ bs) (suc i) (suc j) h = λ e. columns-step b (take i bs) (take j bs) (characters-more bs i j (omega arith)) (same_feeds b (take i bs) (take j bs) e) (columns-more bs i j (omega arith))
+
+-- where a line begins, as many line feeds were seen
+pub line_of_begin : (text : List ℕ) (n : ℕ) → n ≤ count_by is_feed text → count_by is_feed (take (line_begin n text) text) ≡ n
+line_of_begin text zero = λ h. refl
+line_of_begin [] (suc n) = λ h. absurd (omega arith)
+line_of_begin (b ∷ bs) (suc n) =
+    rw (feeds-cons b bs) (elim (cases_Bool (eqb b 10)) [
+      | inl e ↦ rw e (λ h. feeds-cons b (take (line_begin n bs) bs) ∙ rw e (ap suc (line_of_begin bs n (omega arith))))
+      | inr e ↦ rw e (λ h. feeds-cons b (take (line_begin (suc n) bs) bs) ∙ rw e (line_of_begin bs (suc n) h))
+    ])

@@ -11,15 +11,15 @@ use Rattle.starlark_place.specs.declared.diagnostic.Refusal.TheVariants.{Fault, 
 
 -- the value
 abbrev pub inner_of : {T : Type 0} → WithDiagnostic T → T
-inner_of w = w.diagnosed.value.inner
+inner_of w = w.inner
 
 -- its place, if one is set
 abbrev pub span_of : {T : Type 0} → WithDiagnostic T → Option FilePlace
-span_of w = w.diagnosed.value.span
+span_of w = w.diagnostic.value.span
 
 -- the calls that led there
 abbrev pub frames_of : {T : Type 0} → WithDiagnostic T → List Frame
-frames_of w = w.diagnosed.value.call_stack.frames.items
+frames_of w = w.diagnostic.value.call_stack.frames.items
 
 -- a refusal for an error at a place, unless memory ran out
 abbrev pub Refuses : {T : Type 0} → T → FilePlace → Refusal T → Type 0

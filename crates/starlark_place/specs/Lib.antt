@@ -1,5 +1,9 @@
+pub mod Cursor
 pub mod Diagnostic
+pub mod Laws
 pub mod Lines
+pub mod Maps
 pub mod Place
 pub mod Resolved
 pub mod Shown
+pub mod Strings

@@ -1,6 +1,6 @@
 //! Errors with their places.
 
-ghost use Rattle.std.specs.Prelude.{◌≡◌, ◌<◌, ◌++◌, ◌||◌, if◌then◌else◌, IfOk, IsOk, IsSome, is_some, is_err, Some, [], length};
+ghost use Rattle.std.specs.Prelude.{◌≡◌, ◌<◌, ◌++◌, ◌||◌, if◌then◌else◌, IfOk, IfErr, IsOk, IsSome, is_some, is_err, Some, None, [], length};
 ghost use Rattle.std.specs.Option.{option_map};
 ghost use Rattle.starlark_place.specs.Place.{Holds, file_place};
 ghost use Rattle.starlark_place.specs.Diagnostic.{inner_of, span_of, frames_of, place_of, shown_behind, IsResolved, Refuses};
@@ -9,7 +9,7 @@ use crate::codemap::CodeMap;
 use crate::file_span::FileSpan;
 use crate::pos::Span;
 use crate::resolved::ResolvedFileSpan;
-use std::alloc::{AllocError, Global};
+use std::alloc::{AllocError, AllocFailed, Global};
 use std::fmt;
 
 /// A call that was going on.
@@ -29,16 +29,33 @@ pub struct CallStack {
 }
 
 #[derive(Debug, Drop)]
-struct Diagnosed<T> {
-    inner: T,
+struct Diagnostic {
     span: Option<FileSpan>,
     call_stack: CallStack,
+}
+
+// a box with no place and no calls
+fn empty(alloc: Global) -> Result<Box<Diagnostic>, AllocError>
+    ensures span { IfOk result (λ b. b.value.span ≡ None) }
+    ensures calls { IfOk result (λ b. b.value.call_stack.frames.items ≡ []) }
+{
+    let call_stack = CallStack {
+        frames: Vec::new(alloc),
+    };
+    Ok(Box::new(
+        alloc,
+        Diagnostic {
+            span: None,
+            call_stack,
+        },
+    )?)
 }
 
 /// A value with the place that it speaks of and the calls that led there.
 #[derive(Debug, Drop)]
 pub struct WithDiagnostic<T> {
-    diagnosed: Box<Diagnosed<T>>,
+    inner: T,
+    diagnostic: Box<Diagnostic>,
 }
 
 impl<T> WithDiagnostic<T> {
@@ -57,46 +74,60 @@ impl<T> WithDiagnostic<T> {
         ensures span { IfOk result (λ w. span_of w ≡ Some (file_place codemap.now span)) }
         ensures calls { IfOk result (λ w. frames_of w ≡ []) }
     {
-        let span = Some(codemap.file_span(span)?);
-        let call_stack = CallStack {
-            frames: Vec::new(alloc),
-        };
-        let diagnosed = Box::new(
-            alloc,
-            Diagnosed {
-                inner,
-                span,
-                call_stack,
-            },
-        )?;
-        Ok(WithDiagnostic { diagnosed })
+        let mut diagnostic = empty(alloc)?;
+        diagnostic.span = Some(codemap.file_span(span)?);
+        Ok(WithDiagnostic { inner, diagnostic })
     }
 
     /// The value.
     pub fn inner(&self) -> &T
         ensures { result.now ≡ inner_of self.now }
     {
-        &self.diagnosed.inner
+        &self.inner
     }
 
     /// The value, without its place and calls.
     pub fn into_inner(self) -> T
         ensures { result ≡ inner_of self }
     {
-        let WithDiagnostic { diagnosed } = self;
-        let Diagnosed {
+        let WithDiagnostic {
             inner,
-            span: _,
-            call_stack: _,
-        } = Box::into_inner(diagnosed);
+            diagnostic: _,
+        } = self;
         inner
+    }
+
+    /// What `f` makes of the value, with the same place and calls. The answer's box is made first: where memory runs out
+    /// the value comes back, and `f` is not called.
+    pub fn map<U, F: FnOnce(T) -> U>(
+        self,
+        alloc: Global,
+        f: F,
+    ) -> Result<WithDiagnostic<U>, AllocFailed<WithDiagnostic<T>>>
+    where
+        F: Drop,
+        requires { F.pre f (inner_of self) }
+        ensures inner { IfOk result (λ w. F.post f (inner_of self) (inner_of w)) }
+        ensures span { IfOk result (λ w. span_of w ≡ span_of self) }
+        ensures calls { IfOk result (λ w. frames_of w ≡ frames_of self) }
+        ensures back { IfErr result (λ e. e.value ≡ self) }
+    {
+        let Ok(mut made) = empty(alloc) else {
+            return Err(AllocFailed { value: self });
+        };
+        let WithDiagnostic { inner, diagnostic } = self;
+        *made = Box::into_inner(diagnostic);
+        Ok(WithDiagnostic {
+            inner: f(inner),
+            diagnostic: made,
+        })
     }
 
     /// The place, if one is set.
     pub fn span(&self) -> Option<&FileSpan>
         ensures { option_map (λ s. s.now) result ≡ span_of self.now }
     {
-        self.diagnosed.span.as_ref()
+        self.diagnostic.span.as_ref()
     }
 
     /// Sets the place where none is set. Else nothing changes. It is refused where one more owner of the map cannot be
@@ -108,8 +139,8 @@ impl<T> WithDiagnostic<T> {
         ensures span { span_of self.new ≡ (if is_some (span_of self.old) || is_err result then span_of self.old else Some (file_place codemap.now span)) }
         ensures stays { IsSome (span_of self.old) → IsOk result }
     {
-        if self.diagnosed.span.is_none() {
-            self.diagnosed.span = Some(codemap.file_span(span)?);
+        if self.diagnostic.span.is_none() {
+            self.diagnostic.span = Some(codemap.file_span(span)?);
         }
         Ok(())
     }
@@ -124,8 +155,8 @@ impl<T> WithDiagnostic<T> {
         ensures called { frames_of self.old ≡ [] → (s : _) × F.post calls s × (frames_of self.new ≡ s.frames.items) }
         ensures stays { 0 < length (frames_of self.old) → frames_of self.new ≡ frames_of self.old }
     {
-        if self.diagnosed.call_stack.frames.is_empty() {
-            self.diagnosed.call_stack = calls();
+        if self.diagnostic.call_stack.frames.is_empty() {
+            self.diagnostic.call_stack = calls();
         }
     }
 
@@ -133,7 +164,7 @@ impl<T> WithDiagnostic<T> {
     pub fn call_stack(&self) -> &CallStack
         ensures { result.now.frames.items ≡ frames_of self.now }
     {
-        &self.diagnosed.call_stack
+        &self.diagnostic.call_stack
     }
 }
 
@@ -163,8 +194,8 @@ impl<T: fmt::Display> fmt::Display for WithDiagnostic<T> {
     ghost output = { λ w. option_map (λ m. m ++ shown_behind (span_of w)) (T.output (inner_of w)) };
 
     fn fmt<W: fmt::Write>(&self, f: &mut fmt::Formatter<W>) -> fmt::Result {
-        self.diagnosed.inner.fmt(f)?;
-        match &self.diagnosed.span {
+        self.inner.fmt(f)?;
+        match &self.diagnostic.span {
             None => Ok(()),
             Some(span) => write!(f, ": {span}"),
         }

@@ -3,12 +3,11 @@
 ghost use Rattle.std.specs.Prelude.{◌≡◌, ◌≤◌, ◌<◌, ◌↔◌, IfOk, IsErrOf, string_bytes, length, slice_range};
 ghost use Rattle.starlark_place.specs.Place.{FilePlace, file_place, extent};
 ghost use Rattle.std.specs.Prelude.{Some, ◌==◌, ◌++◌};
-ghost use Rattle.std.specs.Cmp.Lexicographic.{pointwise, slice_cmp};
 ghost use Rattle.std.proofs.Common.{rules};
 ghost use Rattle.std.specs.Cmp.{partial_order_from_own_ties};
 ghost use Rattle.std.specs.Cmp.Rules.{comparing, hashing};
-ghost use Rattle.std.specs.Hash as fed;
-ghost use Rattle.std.specs.Ordering.{as_partial_cmp, eq_of_both, nat_cmp, on, then_cmp};
+ghost use Rattle.std.specs.Ordering.{as_partial_cmp};
+ghost use Rattle.starlark_place.specs.Laws.{compares, equals, hashes};
 ghost use Rattle.starlark_place.specs.Resolved.{resolved_span};
 ghost use Rattle.starlark_place.specs.Shown.{shown_place};
 
@@ -115,7 +114,7 @@ impl fmt::Display for FileSpan {
 // By name, begin, end and id, in this order.
 
 impl PartialEq for FileSpan {
-    ghost eq = { eq_of_both (on (λ s. s.file.name) (pointwise ◌==◌)) (eq_of_both (on (λ s. s.extent.begin) ◌==◌) (eq_of_both (on (λ s. s.extent.end) ◌==◌) (on (λ s. s.file.id) ◌==◌))) };
+    ghost eq = { equals };
 
     ghost laws = { Prim.search (comparing, rules) depth 9 };
 
@@ -132,7 +131,7 @@ impl Eq for FileSpan {
 }
 
 impl Ord for FileSpan {
-    ghost cmp = { then_cmp (on (λ s. s.file.name) (slice_cmp nat_cmp)) (then_cmp (on (λ s. s.extent.begin) nat_cmp) (then_cmp (on (λ s. s.extent.end) nat_cmp) (on (λ s. s.file.id) nat_cmp))) };
+    ghost cmp = { compares };
 
     ghost total = { Prim.search (comparing, rules) depth 9 };
 
@@ -150,7 +149,7 @@ impl Ord for FileSpan {
 }
 
 impl PartialOrd for FileSpan {
-    ghost partial_cmp = { as_partial_cmp (then_cmp (on (λ s. s.file.name) (slice_cmp nat_cmp)) (then_cmp (on (λ s. s.extent.begin) nat_cmp) (then_cmp (on (λ s. s.extent.end) nat_cmp) (on (λ s. s.file.id) nat_cmp)))) };
+    ghost partial_cmp = { as_partial_cmp compares };
 
     ghost laws = { partial_order_from_own_ties (Prim.search (comparing, rules) depth 9) (Prim.search (comparing, rules) depth 9) };
 
@@ -160,7 +159,7 @@ impl PartialOrd for FileSpan {
 }
 
 impl Hash for FileSpan {
-    ghost hash_input = { λ s. fed.str s.file.name ++ (fed.u32 s.extent.begin ++ (fed.u32 s.extent.end ++ fed.u64 s.file.id)) };
+    ghost hash_input = { hashes };
 
     ghost respects_eq = { Prim.search (hashing, rules) depth 9 };
 

@@ -1,7 +1,6 @@
-use Rattle.std.proofs.Common.{◌≡◌, ◌<◌, ◌≤◌, ◌+◌, ℕ, List, arith, rules, ap, get_or, length, ◌∙◌, refl, sym, add-one}
+use Rattle.std.proofs.Common.{◌≡◌, ◌<◌, ◌≤◌, ◌+◌, ℕ, List, arith, get_or, length, ◌∙◌, sym, add-one}
 use Rattle.std.specs.Str.{IsUtf8}
-use Rattle.std.proofs.lemmas.Bool.{cases_lt}
-use Rattle.starlark_place.specs.Place.{Extent, Holds, extent, line_feeds, line_begin}
+use Rattle.starlark_place.specs.Place.{Holds, extent, line_feeds, line_begin}
 use Rattle.starlark_place.specs.Lines.{line_begins}
 use Rattle.starlark_place.proofs.Lines.{begins-length, begins-at, line_begin-past, line_begin-more, line_begin-boundary}
 use Rattle.starlark_place.proofs.codemap.line_ends.Goals as goal

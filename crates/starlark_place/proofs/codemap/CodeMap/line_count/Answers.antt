@@ -1,4 +1,4 @@
-use Rattle.std.proofs.Common.{◌≡◌, ◌+◌, ℕ, List, length, refl, arith, ap, ◌∙◌}
+use Rattle.std.proofs.Common.{◌≡◌, ◌+◌, ℕ, List, length, arith, ap, ◌∙◌}
 use Rattle.starlark_place.specs.Place.{line_feeds}
 use Rattle.starlark_place.specs.Lines.{line_begins}
 use Rattle.starlark_place.proofs.Lines.{begins-length}

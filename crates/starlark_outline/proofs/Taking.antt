@@ -1,0 +1,100 @@
+-- What is taken off the bytes to come.
+use Rattle.std.proofs.Common.{◌≡◌, ℕ, ◌+◌, ◌-◌, ◌<◌, ◌≤◌, length, true, false, Option, None, Some, List, [], ◌∷◌, ◌++◌, take, refl, sym, ◌∙◌, ap, append_assoc, length-append, arith, nat_eq, nat_lt}
+use Rattle.std.specs.Io.KnownBytes.{Consumes, IsAtEnd}
+use Rattle.std.proofs.lemmas.List.{append-nil}
+use Rattle.std.proofs.lemmas.Bool.Decides.{nat_tests}
+use Rattle.starlark_outline.specs.Script.{front, first_line, after_line, behind, nothing, no_command}
+use Rattle.starlark_outline.specs.Reading.{IsLine, IsTaken, IsSkipped}
+use Rattle.starlark_outline.specs.declared.reading.Line.TheVariants as lines
+use Rattle.starlark_outline.specs.declared.reading.Taken.TheVariants as texts
+use Rattle.starlark_outline.proofs.Lines.{No, no_more, line_found, line_none}
+
+-- the first line behind bytes without a line feed
+abbrev onto : List ℕ → Option (List ℕ × List ℕ) → Option (List ℕ × List ℕ)
+onto w None = None
+onto w (Some p) = Some (w ++ p.0, p.1)
+
+behind_onto : (b : ℕ) (w : List ℕ) (o : Option (List ℕ × List ℕ)) → behind b (onto w o) ≡ onto (b ∷ w) o
+behind_onto b w None = refl
+behind_onto b w (Some p) = refl
+
+onto_none : (o : Option (List ℕ × List ℕ)) → o ≡ onto [] o
+onto_none None = refl
+onto_none (Some p) = refl
+
+not_equal : (a b : ℕ) → (a ≡ b → ⊥) → nat_eq a b ≡ false
+not_equal a b h = grind (arith, nat_tests)
+
+longer : (n : ℕ) → 64 < n → nat_lt 64 n ≡ true
+longer n h = grind (arith, nat_tests)
+
+short : (n : ℕ) → n ≤ 64 → nat_lt 64 n ≡ false
+short n h = grind (arith, nat_tests)
+
+later_line : (w rest : List ℕ) → No 10 w → first_line (w ++ rest) ≡ onto w (first_line rest)
+later_line [] rest h = onto_none (first_line rest)
+later_line (b ∷ w) rest h = rw (not_equal b 10 h.0) (ap (behind b) (later_line w rest h.1) ∙ behind_onto b w (first_line rest))
+
+too_long : (w : List ℕ) (o : Option (List ℕ × List ℕ)) → 64 < length w → after_line (onto w o) ≡ no_command
+too_long w None l = refl
+too_long w (Some p) l = rw (longer (length (w ++ p.0)) (omega (arith, length-append w p.0))) refl
+
+front_is : (xs : List ℕ) → 0 < length xs → front xs ≡ after_line (first_line xs)
+unfolding front
+front_is [] l = absurd (omega arith)
+front_is (x ∷ xs) l = refl
+
+front_nil : front [] ≡ nothing
+unfolding front
+front_nil = refl
+
+pub line_end : (old mid new : Option (List ℕ)) (buf : List ℕ) → Consumes old mid [] → Consumes mid new [] × IsAtEnd new → IsLine old new buf lines.End
+line_end None mid new buf h k = tt
+line_end (Some xs) None new buf h k = absurd h
+line_end (Some xs) (Some ms) None buf h k = absurd k.0
+line_end (Some xs) (Some ms) (Some ns) buf h k = rw (h, k.0, k.1) front_nil
+
+pub line_cut : (old mid new : Option (List ℕ)) (w buf : List ℕ) → 0 < length w → No 10 w → Consumes old mid w → Consumes mid new [] × IsAtEnd new → IsLine old new buf lines.Bad
+line_cut None mid new w buf l p h k = tt
+line_cut (Some xs) None new w buf l p h k = absurd h
+line_cut (Some xs) (Some ms) None w buf l p h k = absurd k.0
+line_cut (Some xs) (Some ms) (Some ns) w buf l p h k =
+    let e : xs ≡ w = h ∙ ap (λ z. w ++ z) (k.0 ∙ k.1) ∙ append-nil w in
+    rw (e, front_is w l, line_none w p) refl
+
+pub line_of : (old mid new : Option (List ℕ)) (n b : ℕ) (buf : List ℕ) → length (take n buf) ≤ 64 → b ≡ 10 → No 10 (take n buf) → Consumes old mid (take n buf) → Consumes mid new (b ∷ [])
+    → IsLine old new buf (lines.Of n)
+line_of None mid new n b buf l q p h k = tt
+line_of (Some xs) None new n b buf l q p h k = absurd h
+line_of (Some xs) (Some ms) None n b buf l q p h k = absurd k
+line_of (Some xs) (Some ms) (Some ns) n b buf l q p h k =
+    let w : List ℕ = take n buf in
+    let e : xs ≡ w ++ 10 ∷ ns = h ∙ ap (λ z. w ++ z) (k ∙ ap (λ z. z ∷ ns) q) in
+    let some : 0 < length (w ++ 10 ∷ ns) = rw (length-append w (10 ∷ ns)) (omega arith) in
+    (ns, rw (e, front_is (w ++ 10 ∷ ns) some, line_found w ns p, short (length w) l) refl, refl)
+
+pub line_long : (old mid new : Option (List ℕ)) (w buf : List ℕ) (b : ℕ) → 64 ≤ length w → No 10 w → (b ≡ 10 → ⊥) → Consumes old mid w → Consumes mid new (b ∷ []) → IsLine old new buf lines.Bad
+line_long None mid new w buf b l p q h k = tt
+line_long (Some xs) None new w buf b l p q h k = absurd h
+line_long (Some xs) (Some ms) None w buf b l p q h k = absurd k
+line_long (Some xs) (Some ms) (Some ns) w buf b l p q h k =
+    let v : List ℕ = w ++ b ∷ [] in
+    let e : xs ≡ v ++ ns = h ∙ ap (λ z. w ++ z) k ∙ sym (append_assoc w (b ∷ []) ns) in
+    let long : 64 < length v = rw (length-append w (b ∷ [])) (omega arith) in
+    let some : 0 < length (v ++ ns) = rw (length-append v ns) (omega arith) in
+    rw (e, front_is (v ++ ns) some, later_line v ns (no_more 10 w b p q)) (too_long v (first_line ns) long)
+
+pub skipped_more : (old mid new : Option (List ℕ)) (bs cs : List ℕ) (m n : ℕ) → length bs ≡ m → length cs ≡ n → Consumes old mid bs → Consumes mid new cs → IsSkipped old new (m + n) true
+skipped_more None mid new bs cs m n l p h k = tt
+skipped_more (Some xs) None new bs cs m n l p h k = absurd h
+skipped_more (Some xs) (Some ms) None bs cs m n l p h k = absurd k
+skipped_more (Some xs) (Some ms) (Some ns) bs cs m n l p h k =
+    (bs ++ cs, ns, h ∙ ap (λ z. bs ++ z) k ∙ sym (append_assoc bs cs ns), rw (length-append bs cs) (omega arith), refl)
+
+-- some bytes, one that finds no memory, and so many behind it
+pub wanting : (old mid last new : Option (List ℕ)) (bs : List ℕ) (b i n : ℕ) → length bs ≡ i → i < n → Consumes old mid bs → Consumes mid last (b ∷ []) → IsSkipped last new (n - i - 1) true → IsTaken old new n texts.Wanting
+wanting None mid last new bs b i n l m h k s = tt
+wanting (Some xs) None last new bs b i n l m h k s = absurd h
+wanting (Some xs) (Some ms) None new bs b i n l m h k s = absurd k
+wanting (Some xs) (Some ms) (Some ls) new bs b i n l m h k s =
+    (bs ++ b ∷ s.0, s.1, h ∙ ap (λ z. bs ++ z) (k ∙ ap (λ z. b ∷ z) s.2) ∙ sym (append_assoc bs (b ∷ s.0) s.1), rw (length-append bs (b ∷ s.0)) (omega (arith, s.3)), s.4)

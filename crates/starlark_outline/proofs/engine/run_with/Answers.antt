@@ -1,0 +1,49 @@
+use Rattle.std.proofs.Common.{arith, rules}
+use Rattle.std.proofs.lemmas.Result.{err_from_is_err_and}
+use Rattle.std.proofs.lemmas.Grind.{common_steps}
+use Rattle.starlark_outline.proofs.Runs.{going_on, going_whole, going_bad, going_unread, going_unwritten, going_unbroken, nothing_written}
+use Rattle.starlark_outline.proofs.engine.run_with.Goals as goal
+
+pub returns-in-Err-clause-front : goal.returns-in-Err-clause-front
+returns-in-Err-clause-front g c = nothing_written _ _ _ _ c.with_limit-parts.ensures.outlined
+
+pub returns-in_err-next_request-clause-front : goal.returns-in_err-next_request-clause-front
+returns-in_err-next_request-clause-front g c =
+    let p = err_from_is_err_and c.from_residual.result c.from_residual.ensures.1 in
+    rw p.1 (going_unread c.args.limit c.args.dialect.now _ _ c.commands.parts.texts _ _ (rw c.commands.invariant.dialect at c.commands.invariant.outlined) c.commands.invariant.going)
+
+pub returns-in-Whole-clause-ok : goal.returns-in-Whole-clause-ok
+returns-in-Whole-clause-ok g c =
+    going_whole c.args.limit c.args.dialect.now _ _ c.commands.parts.texts _ _ _ c.commands.invariant.going (rw c.in-Whole.is at c.in_ok-next_request.ensures.ok)
+
+pub returns-in_err-write_all-in-Bad-clause-front : goal.returns-in_err-write_all-in-Bad-clause-front
+returns-in_err-write_all-in-Bad-clause-front g c =
+    let r = c.from_residual-in_err-write_all-in-Bad in
+    let p = err_from_is_err_and r.result r.ensures.1 in
+    rw p.1 (going_unbroken c.args.limit c.args.dialect.now _ _ c.commands.parts.texts _ _ _ _ c.commands.invariant.going (rw c.in-Bad.is at c.in_ok-next_request.ensures.ok) c.in_err-write_all-in-Bad.ensures.front)
+
+pub returns-in-Bad-clause-ok : goal.returns-in-Bad-clause-ok
+returns-in-Bad-clause-ok g c =
+    going_bad c.args.limit c.args.dialect.now _ _ c.commands.parts.texts _ _ _ _ c.commands.invariant.going (rw c.in-Bad.is at c.in_ok-next_request.ensures.ok) c.in_ok-write_all-in-Bad.ensures.ok
+
+pub returns-in_err-answer-in-Does-clause-front : goal.returns-in_err-answer-in-Does-clause-front
+returns-in_err-answer-in-Does-clause-front g c =
+    let r = c.from_residual-in_err-answer-in-Does in
+    let p = err_from_is_err_and r.result r.ensures.1 in
+    let f = rw (c.commands.invariant.limit, c.commands.invariant.dialect) at c.in_err-answer-in-Does.ensures.front in
+    let o = rw (c.answer.ensures.dialect, c.commands.invariant.dialect) at c.answer.ensures.outlined in
+    rw p.1 (going_unwritten c.args.limit c.args.dialect.now _ _ c.commands.parts.texts c.answer.new.parts.texts _ _ _ _ c.in-Does.asked f.0 o c.commands.invariant.going (rw c.in-Does.is at c.in_ok-next_request.ensures.ok) f.1 f.2)
+
+pub commands-preserved : goal.commands-preserved
+commands-preserved g c =
+    let f = rw (c.commands.invariant.limit, c.commands.invariant.dialect) at c.in_ok-answer-in-Does.ensures.ok in
+    record {
+      going = going_on c.args.limit c.args.dialect.now _ _ c.commands.parts.texts c.answer.new.parts.texts _ _ _ _ c.in-Does.asked f.0 c.commands.invariant.going (rw c.in-Does.is at c.in_ok-next_request.ensures.ok) f.1 f.2;
+      limit = first_of (search rules, grind (arith, common_steps));
+      dialect = first_of (search rules, grind (arith, common_steps));
+      outlined = first_of (search rules, grind (arith, common_steps));
+      reads = first_of (search rules, grind (arith, common_steps));
+      writes = first_of (search rules, grind (arith, common_steps));
+      fewer = first_of (search rules, grind (arith, common_steps));
+      count = first_of (search rules, grind (arith, common_steps));
+    }

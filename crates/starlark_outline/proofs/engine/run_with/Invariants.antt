@@ -1,0 +1,22 @@
+use Rattle.std.proofs.Common.{◌≡◌, ◌≤◌, ◌-◌, ◌^◌, false}
+use Rattle.starlark_outline.specs.Coming.{coming, weight}
+use Rattle.starlark_outline.specs.Device.{CountsOn}
+use Rattle.starlark_outline.specs.Kept.{joined}
+use Rattle.starlark_outline.specs.Parts.{HasOutline}
+use Rattle.starlark_outline.proofs.Runs.{Going}
+use Rattle.starlark_outline.proofs.engine.run_with.Given as goal
+
+abbrev pub invariant-commands : goal.invariant-commands
+invariant-commands g l = record {
+  going : Going l.fn.limit l.fn.dialect (g.R.Read.remaining l.fn.reader) (g.W.Write.contents l.fn.writer) l.parts.texts (coming l.ahead (g.R.Read.remaining l.reader)) (g.W.Write.contents l.writer);
+  limit : l.parts.limit ≡ l.fn.limit;
+  dialect : l.parts.dialect ≡ l.fn.dialect;
+  outlined : HasOutline l.parts.dialect (joined l.parts.texts);
+  reads : g.R.Source.has_failed l.reader ≡ false;
+  writes : g.W.Sink.has_failed l.writer ≡ false;
+  fewer : l.ahead.reads ≤ 2 ^ 40;
+  count : CountsOn (2 ^ 40 - l.ahead.reads) (g.R.Source.reads l.fn.reader) (g.R.Source.reads l.reader);
+}
+
+abbrev pub decreases-commands : goal.decreases-commands
+decreases-commands g l = weight l.ahead

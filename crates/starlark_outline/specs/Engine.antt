@@ -1,0 +1,54 @@
+-- What an answer and a run leave.
+use Rattle.std.specs.Prelude.{◌≡◌, ℕ, List, [], ◌++◌, Option, None, Some, Result, Ok, Err, codes}
+use Rattle.starlark_outline.specs.Script.{Does, Replies, inserting, outlining}
+use Rattle.starlark_outline.specs.declared.fault.End.{End}
+use Rattle.starlark_outline.specs.declared.fault.End.TheVariants as ends
+use Rattle.starlark_outline.specs.declared.fault.RunFault.{RunFault}
+use Rattle.starlark_outline.specs.declared.fault.RunFault.TheVariants as faults
+use Rattle.starlark_lexer.specs.declared.dialect.Dialect.{Dialect}
+use Rattle.starlark_outline.specs.declared.reading.Asked.{Asked}
+use Rattle.starlark_outline.specs.declared.reading.Asked.TheVariants as asks
+
+-- What is asked may be answered by these bytes, and leaves these parts.
+abbrev pub Answers : ℕ → Dialect → List (List ℕ) → Asked → List ℕ → List (List ℕ) → Type 0
+Answers limit dialect parts (asks.Insert k v) reply left = Does limit dialect parts (inserting k v.items) reply left
+Answers limit dialect parts asks.Wanting reply left = (k : ℕ) (text : List ℕ) → Does limit dialect parts (inserting k text) reply left
+Answers limit dialect parts asks.Outline reply left = Does limit dialect parts outlining reply left
+
+-- Replies to the whole script stand behind what was written before, and it ended so.
+pub record IsAnswered (limit : ℕ) (dialect : Dialect) (script before : List ℕ) (after : Option (List ℕ)) (end : End) : Type 0 where
+  pub replies : List ℕ
+  pub given : Replies limit dialect [] script replies end
+  pub written : after ≡ Some (before ++ replies)
+
+-- A front of replies to the whole script stands behind what was written before.
+pub record IsAnsweredInPart (limit : ℕ) (dialect : Dialect) (script before : List ℕ) (after : Option (List ℕ)) : Type 0 where
+  pub front : List ℕ
+  pub rest : List ℕ
+  pub end : End
+  pub given : Replies limit dialect [] script (front ++ rest) end
+  pub written : after ≡ Some (before ++ front)
+
+-- Where the script and what was written before are known, replies to the script were written, and it ended so.
+abbrev pub Wrote : ℕ → Dialect → Option (List ℕ) → Option (List ℕ) → Option (List ℕ) → End → Type 0
+Wrote limit dialect None before after end = Unit {0}
+Wrote limit dialect (Some script) None after end = Unit {0}
+Wrote limit dialect (Some script) (Some before) after end = IsAnswered limit dialect script before after end
+
+-- Where both are known, a front of replies to the script was written.
+abbrev pub WroteFront : ℕ → Dialect → Option (List ℕ) → Option (List ℕ) → Option (List ℕ) → Type 0
+WroteFront limit dialect None before after = Unit {0}
+WroteFront limit dialect (Some script) None after = Unit {0}
+WroteFront limit dialect (Some script) (Some before) after = IsAnsweredInPart limit dialect script before after
+
+-- The status of the program: 0 where the script ended whole, 2 where it ended at what is no command, 1 at a fault.
+abbrev pub status_of : Result End RunFault → ℕ
+status_of (Ok ends.Whole) = 0
+status_of (Ok ends.Bad) = 2
+status_of (Err fault) = 1
+
+-- What the program says of a fault.
+abbrev pub fault_text : RunFault → List ℕ
+fault_text faults.Read = codes "fault: read"
+fault_text faults.Write = codes "fault: write"
+fault_text faults.Memory = codes "fault: memory"

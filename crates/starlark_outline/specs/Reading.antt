@@ -1,0 +1,66 @@
+-- What the calls that read hand out, where the bytes to come are known.
+use Rattle.std.specs.Prelude.{◌≡◌, ◌≤◌, ◌<◌, ℕ, List, ◌++◌, Option, None, Some, Bool, true, false, length, take}
+use Rattle.starlark_outline.specs.Script.{front, Command, nothing, no_command, asking, inserting, outlining, with_text, command_of}
+use Rattle.starlark_outline.specs.declared.reading.Line.{Line}
+use Rattle.starlark_outline.specs.declared.reading.Line.TheVariants as lines
+use Rattle.starlark_outline.specs.declared.reading.Taken.{Taken}
+use Rattle.starlark_outline.specs.declared.reading.Taken.TheVariants as texts
+use Rattle.starlark_outline.specs.declared.reading.Asked.{Asked}
+use Rattle.starlark_outline.specs.declared.reading.Asked.TheVariants as asks
+use Rattle.starlark_outline.specs.declared.reading.Request.{Request}
+use Rattle.starlark_outline.specs.declared.reading.Request.TheVariants as requests
+
+-- what a line of the bytes to come is: none, as they are at their end; one that no command has; or n bytes in a buffer, with a line feed behind them
+abbrev pub IsLine : Option (List ℕ) → Option (List ℕ) → List ℕ → Line → Type 0
+IsLine None new buf l = Unit {0}
+IsLine (Some xs) new buf lines.End = front xs ≡ nothing
+IsLine (Some xs) new buf lines.Bad = front xs ≡ no_command
+IsLine (Some xs) new buf (lines.Of n) = (rest : List ℕ) × (front xs ≡ with_text (command_of (take n buf)) rest) × (new ≡ Some rest)
+
+-- it fits the buffer
+abbrev pub LineFits : Line → Type 0
+LineFits lines.End = Unit {0}
+LineFits lines.Bad = Unit {0}
+LineFits (lines.Of n) = n ≤ 64
+
+-- whether a line was taken
+abbrev pub line_goes : Line → Bool
+line_goes lines.End = false
+line_goes lines.Bad = false
+line_goes (lines.Of n) = true
+
+-- n bytes were taken off, and kept or dropped, or there are fewer
+abbrev pub IsTaken : Option (List ℕ) → Option (List ℕ) → ℕ → Taken → Type 0
+IsTaken None new n t = Unit {0}
+IsTaken (Some xs) new n (texts.Text v) = (rest : List ℕ) × (xs ≡ v.items ++ rest) × (length v.items ≡ n) × (new ≡ Some rest)
+IsTaken (Some xs) new n texts.Wanting = (bs : List ℕ) × (rest : List ℕ) × (xs ≡ bs ++ rest) × (length bs ≡ n) × (new ≡ Some rest)
+IsTaken (Some xs) new n texts.Short = length xs < n
+
+-- n bytes were dropped, or there are fewer
+abbrev pub IsSkipped : Option (List ℕ) → Option (List ℕ) → ℕ → Bool → Type 0
+IsSkipped None new n b = Unit {0}
+IsSkipped (Some xs) new n true = (bs : List ℕ) × (rest : List ℕ) × (xs ≡ bs ++ rest) × (length bs ≡ n) × (new ≡ Some rest)
+IsSkipped (Some xs) new n false = length xs < n
+
+-- a command stands at the front, and these bytes behind it
+abbrev pub Goes : List ℕ → Option (List ℕ) → Command → Type 0
+Goes xs new c = (rest : List ℕ) × (front xs ≡ asking c rest) × (new ≡ Some rest)
+
+-- what is asked stands at the front: of an insert that found no memory only that it is one
+abbrev pub IsAsked : List ℕ → Option (List ℕ) → Asked → Type 0
+IsAsked xs new (asks.Insert k v) = Goes xs new (inserting k v.items)
+IsAsked xs new asks.Wanting = (k : ℕ) × (text : List ℕ) × Goes xs new (inserting k text)
+IsAsked xs new asks.Outline = Goes xs new outlining
+
+-- the request is what stands at the front of the bytes to come
+abbrev pub IsRequest : Option (List ℕ) → Option (List ℕ) → Request → Type 0
+IsRequest None new q = Unit {0}
+IsRequest (Some xs) new requests.Whole = front xs ≡ nothing
+IsRequest (Some xs) new requests.Bad = front xs ≡ no_command
+IsRequest (Some xs) new (requests.Does a) = IsAsked xs new a
+
+-- whether the script goes on
+abbrev pub goes_on : Request → Bool
+goes_on requests.Whole = false
+goes_on requests.Bad = false
+goes_on (requests.Does a) = true

@@ -1,0 +1,139 @@
+//! The run of a script.
+
+ghost use Rattle.std.specs.Prelude.{◌≡◌, ◌≤◌, ◌<◌, ◌^◌, ◌⊎◌, ℕ, ◌+◌, ◌-◌, List, [], ◌∷◌, ◌++◌, Bool, true, false, map, length, IfOk, IfErr, OnOk, OnErr, decimal, Option, codes, IsErrOf};
+ghost use Rattle.std.specs.Io.KnownBytes.{Appends};
+ghost use Rattle.starlark_outline.specs.Device.{AppendsFront, CountsOn};
+ghost use Rattle.starlark_outline.specs.Kept.{joined};
+ghost use Rattle.starlark_outline.specs.Parts.{HasOutline};
+ghost use Rattle.starlark_outline.specs.Printed.{edit_line, outline_lines};
+ghost use Rattle.starlark_outline.specs.Coming.{coming, weight};
+ghost use Rattle.starlark_outline.specs.Engine.{Answers, Wrote, WroteFront};
+
+use crate::ahead::Ahead;
+use crate::device::{Sink, Source};
+use crate::fault::{End, RunFault};
+use crate::parts::{OutlineItem, PartFault, Parts};
+use crate::reading::{Asked, Request, next_request};
+use crate::reply::Reply;
+use crate::write::write_all;
+use starlark_lexer::dialect::Dialect;
+use std::alloc::Global;
+
+/// Writes the outline: a line for the number of statements, and one for each of them.
+fn write_outline<W: Sink>(writer: &mut W, items: &[OutlineItem]) -> Result<(), RunFault>
+    requires { W.has_failed writer.old ≡ false }
+    ensures ok { OnOk result (Appends (W.contents writer.old) (W.contents writer.new) (outline_lines items.now)) }
+    ensures sound { OnOk result (W.has_failed writer.new ≡ false) }
+    ensures front { OnErr result (AppendsFront (W.contents writer.old) (W.contents writer.new) (outline_lines items.now)) }
+    ensures err { IfErr result (λ e. (e ≡ RunFault.Write) × ((W.has_failed writer.new ≡ true) ⊎ (W.has_stalled writer.new ≡ true))) }
+{
+    write_all(writer, Reply::count(items.len()).as_slice())?;
+    for item in items {
+        write_all(writer, Reply::statement(*item).as_slice())?;
+    }
+    Ok(())
+}
+
+/// Writes the line that answers an edit.
+fn write_done<W: Sink>(writer: &mut W, done: Result<(), PartFault>) -> Result<(), RunFault>
+    requires { W.has_failed writer.old ≡ false }
+    ensures ok { OnOk result (Appends (W.contents writer.old) (W.contents writer.new) (edit_line done)) }
+    ensures sound { OnOk result (W.has_failed writer.new ≡ false) }
+    ensures front { OnErr result (AppendsFront (W.contents writer.old) (W.contents writer.new) (edit_line done)) }
+    ensures err { IfErr result (λ e. (e ≡ RunFault.Write) × ((W.has_failed writer.new ≡ true) ⊎ (W.has_stalled writer.new ≡ true))) }
+{
+    match done {
+        Ok(()) => write_all(writer, b"ok\n"),
+        Err(fault) => write_all(writer, Reply::refusal(fault).as_slice()),
+    }
+}
+
+/// Does what is asked, and writes the whole reply. An edit that is refused leaves the parts as they were.
+fn answer<W: Sink>(writer: &mut W, parts: &mut Parts, asked: Asked) -> Result<(), RunFault>
+    requires sound { W.has_failed writer.old ≡ false }
+    requires outlined { HasOutline parts.old.dialect (joined parts.old.texts) }
+    ensures ok { OnOk result ((reply : List ℕ) × Answers parts.old.limit parts.old.dialect parts.old.texts asked reply parts.new.texts
+        × Appends (W.contents writer.old) (W.contents writer.new) reply) }
+    ensures sound { OnOk result (W.has_failed writer.new ≡ false) }
+    ensures front { OnErr result ((reply : List ℕ) × Answers parts.old.limit parts.old.dialect parts.old.texts asked reply parts.new.texts
+        × AppendsFront (W.contents writer.old) (W.contents writer.new) reply) }
+    ensures err { IfErr result (λ e. (e ≡ RunFault.Write) × ((W.has_failed writer.new ≡ true) ⊎ (W.has_stalled writer.new ≡ true))) }
+    ensures limit { parts.new.limit ≡ parts.old.limit }
+    ensures dialect { parts.new.dialect ≡ parts.old.dialect }
+    ensures outlined { HasOutline parts.new.dialect (joined parts.new.texts) }
+{
+    match asked {
+        Asked::Insert(index, text) => {
+            let done = parts.insert(index, text.as_slice());
+            write_done(writer, done)
+        }
+        Asked::Wanting => write_all(writer, b"refused memory\n"),
+        Asked::Outline => write_outline(writer, parts.outline()),
+    }
+}
+
+/// Runs a script: takes one command after the other off the reader, and writes the whole reply to each before it takes
+/// the next. The parts, none at first, may have `limit` bytes together.
+///
+/// - `Ok(End::Whole)`: the script is at its end after a command.
+/// - `Ok(End::Bad)`: it goes on with a line that is no command, or ends before all bytes of a command. The last reply is
+///   `bad`.
+/// - `Err(RunFault::Read)`: a read failed, or 2 to the 40th reads were made.
+/// - `Err(RunFault::Write)`: a write failed, or took 0 bytes of some. After both a front of the replies was written.
+/// - `Err(RunFault::Memory)`: there was no memory for the buffer. Nothing was read or written.
+///
+/// Want of memory for a text or its reading ends nothing: the reply is `refused memory`.
+pub fn run_with<R: Source, W: Sink>(
+    alloc: Global,
+    reader: &mut R,
+    writer: &mut W,
+    dialect: &Dialect,
+    limit: u32,
+) -> Result<End, RunFault>
+    requires reader { R.has_failed reader.old ≡ false }
+    requires writer { W.has_failed writer.old ≡ false }
+    // where the script and the writer's bytes are known, replies to the whole script were written, and it ends so
+    ensures ok { IfOk result (Wrote limit dialect.now (R.remaining reader.old) (W.contents writer.old) (W.contents writer.new)) }
+    ensures sound { OnOk result ((R.has_failed reader.new ≡ false) × (W.has_failed writer.new ≡ false)) }
+    // after a fault a front of such replies was written
+    ensures front { OnErr result (WroteFront limit dialect.now (R.remaining reader.old) (W.contents writer.old) (W.contents writer.new)) }
+    ensures read { IfErr result (λ f. f ≡ RunFault.Read → (R.has_failed reader.new ≡ true) ⊎ CountsOn (2 ^ 40) (R.reads reader.old) (R.reads reader.new)) }
+    ensures write { IfErr result (λ f. f ≡ RunFault.Write → (W.has_failed writer.new ≡ true) ⊎ (W.has_stalled writer.new ≡ true)) }
+    ensures memory { IfErr result (λ f. f ≡ RunFault.Memory → (reader.new ≡ reader.old) × (writer.new ≡ writer.old)) }
+{
+    let mut parts = Parts::with_limit(alloc, dialect, limit);
+    let mut ahead = match Ahead::new(alloc) {
+        Ok(ahead) => ahead,
+        Err(_) => return Err(RunFault::Memory),
+    };
+    let mut line = [0u8; 64];
+    'commands: loop {
+        match next_request(alloc, &mut ahead, reader, &mut line)? {
+            Request::Whole => return Ok(End::Whole),
+            Request::Bad => {
+                write_all(writer, b"bad\n")?;
+                return Ok(End::Bad);
+            }
+            Request::Does(asked) => answer(writer, &mut parts, asked)?,
+        }
+    }
+}
+
+/// Runs a script whose parts may have 4294967295 bytes together. All else is as in `run_with`.
+pub fn run<R: Source, W: Sink>(
+    alloc: Global,
+    reader: &mut R,
+    writer: &mut W,
+    dialect: &Dialect,
+) -> Result<End, RunFault>
+    requires reader { R.has_failed reader.old ≡ false }
+    requires writer { W.has_failed writer.old ≡ false }
+    ensures ok { IfOk result (Wrote 4294967295 dialect.now (R.remaining reader.old) (W.contents writer.old) (W.contents writer.new)) }
+    ensures sound { OnOk result ((R.has_failed reader.new ≡ false) × (W.has_failed writer.new ≡ false)) }
+    ensures front { OnErr result (WroteFront 4294967295 dialect.now (R.remaining reader.old) (W.contents writer.old) (W.contents writer.new)) }
+    ensures read { IfErr result (λ f. f ≡ RunFault.Read → (R.has_failed reader.new ≡ true) ⊎ CountsOn (2 ^ 40) (R.reads reader.old) (R.reads reader.new)) }
+    ensures write { IfErr result (λ f. f ≡ RunFault.Write → (W.has_failed writer.new ≡ true) ⊎ (W.has_stalled writer.new ≡ true)) }
+    ensures memory { IfErr result (λ f. f ≡ RunFault.Memory → (reader.new ≡ reader.old) × (writer.new ≡ writer.old)) }
+{
+    run_with(alloc, reader, writer, dialect, u32::MAX)
+}
