@@ -1,149 +1,215 @@
--- A turn goes forward, and cuts the text between characters.
-use Rattle.std.proofs.Common.{◌≡◌, ◌<◌, ◌≤◌, ℕ, ◌+◌, ◌-◌, Bool, true, false, List, [], ◌∷◌, length, drop, get_or, refl, ap, sym, ◌∙◌, arith, zero, suc, inl, inr, eqb, ltb, subst, length-drop, get_or-drop, one-add, IsUtf8}
-use Rattle.std.specs.Str.{IsCharBoundary}
-use Rattle.std.proofs.lemmas.Bool.{cases_Bool, cases_lt}
+-- A turn goes forward, within the rest.
+use Rattle.std.proofs.Common.{◌≡◌, ◌<◌, ◌≤◌, ℕ, ◌+◌, ◌-◌, ◌^◌, Bool, true, false, cond, List, [], ◌∷◌, length, take, drop, get_or, refl, ap, sym, ◌∙◌, arith, zero, suc, rules, inl, inr, eqb, ltb, ◌&&◌, ◌||◌, subst, length-drop, get_or-drop, one-add}
+use Rattle.std.specs.Prelude.{◌⊎◌, Option, Some, None}
+use Rattle.std.proofs.lemmas.Bool.{cases_Bool, false≢true, cases_lt}
 use Rattle.std.proofs.lemmas.Bool.Decides.{nat_tests}
-use Rattle.std.proofs.lemmas.Str.{IsUtf8-drop, IsCharBoundary-from_rest, IsCharBoundary-start, IsCharBoundary-after_ascii, IsCharBoundary-before_ascii}
-use Rattle.std.proofs.lemmas.List.Sums.{prefix_len_passes, prefix_len_stops, prefix_len-le-length}
+use Rattle.std.proofs.lemmas.List.Sums.{prefix_len_passes, prefix_len-le-length}
 use Rattle.std.specs.List.{prefix_len}
 use Rattle.std.specs.Char.{is_ascii_digit}
+use Rattle.starlark_lexer.specs.declared.literal.Form.{Form}
+use Rattle.starlark_lexer.specs.declared.literal.Ending.{Ending}
+use Rattle.starlark_lexer.specs.declared.literal.Ending.TheVariants as ending
+use Rattle.starlark_lexer.specs.declared.token.FStringQuote.{FStringQuote}
+use Rattle.starlark_lexer.specs.declared.token.FStringQuote.TheVariants as marks
+use Rattle.starlark_lexer.specs.declared.words.Operator.{Operator}
+use Rattle.starlark_lexer.specs.declared.scan.Class.TheVariants as class
 use Rattle.starlark_lexer.specs.declared.scan.Found.{Found}
 use Rattle.starlark_lexer.specs.declared.scan.Found.TheVariants as found
-use Rattle.starlark_lexer.specs.Classes.{is_blank, is_word_byte, begins_word, is_continuation, leading, is_indented}
-use Rattle.starlark_lexer.specs.Scan.{scan, here, turn_of, line_from, line_turn, pass, gap}
-use Rattle.starlark_lexer.specs.Parts.{IsStretch, IsCut, Cuts}
-use Rattle.starlark_lexer.proofs.Gaps.{pass_within, gap_step, gap_stop}
-use Rattle.starlark_lexer.proofs.Runs.{word_ascii, digit_ascii, blank_ascii, scan_within}
+use Rattle.starlark_lexer.specs.declared.scan.Mode.{Mode}
+use Rattle.starlark_lexer.specs.declared.scan.Turn.{Turn}
+use Rattle.starlark_lexer.specs.declared.scan.Turn.TheVariants as turns
+use Rattle.starlark_lexer.specs.Literals.{body, quotes, is_format}
+use Rattle.starlark_lexer.specs.Fronts.{opening_front}
+use Rattle.starlark_lexer.specs.Classes.{is_word_byte, begins_word, begins_digit, operators, line_end, line_len, leading, blanks, has_tab, spaces, is_open, closes_field}
+use Rattle.starlark_lexer.specs.Scan.{is_in, scan, scan_more, by_front, first_row, here, text_turn, literal_turn, opens_turn, at_ground, turn_of, line_from, line_turn, fits, kept, IsEnding}
+use Rattle.starlark_lexer.specs.Scan as scans
+use Rattle.starlark_lexer.specs.Turns.{IsWithin, Cuts, Keeps, IsLexical}
+use Rattle.starlark_lexer.proofs.Runs.{run_nonempty}
+use Rattle.starlark_lexer.proofs.Gaps.{line_end_within, line_len_within}
+use Rattle.starlark_lexer.proofs.Longest.{begins_goes, number_scanned, pointed_by, word_rule}
+use Rattle.starlark_lexer.proofs.Tables.{Right, operators_right}
+use Rattle.starlark_lexer.proofs.Openings.{opening_some}
+use Rattle.starlark_lexer.proofs.Bodies.{IsInside, body_within}
 
--- ---- between characters
+abbrev pub IsFront : List ℕ → ℕ → Type 0
+IsFront xs n = (0 < n) × (n ≤ length xs)
 
-behind : (xs : List ℕ) (n : ℕ) → IsUtf8 xs → 0 < n → n ≤ length xs → get_or xs (n - 1) 0 < 128 → IsCharBoundary xs n
-behind xs n utf8 pos le ascii =
-    let e : n - 1 + 1 ≡ n = omega arith in
-    subst (IsCharBoundary xs) e (IsCharBoundary-after_ascii xs (n - 1) utf8 (omega arith) ascii)
+run_front : (p : ℕ → Bool) (b : ℕ) (bs : List ℕ) → p b ≡ true → IsFront (b ∷ bs) (prefix_len p (b ∷ bs))
+run_front p b bs h = (run_nonempty p (b ∷ bs) (omega arith) h, prefix_len-le-length p (b ∷ bs))
 
--- behind a run of ASCII
-run_boundary : (p : ℕ → Bool) (xs : List ℕ) → ((b : ℕ) → p b ≡ true → b < 128) → IsUtf8 xs → IsCharBoundary xs (prefix_len p xs)
-run_boundary p xs ascii utf8 =
-    elim (cases_lt 0 (prefix_len p xs)) [
-      | inl some ↦ behind xs (prefix_len p xs) utf8 some (prefix_len-le-length p xs) (ascii _ (prefix_len_passes p xs (prefix_len p xs - 1) 0 (omega arith)))
-      | inr none ↦ let e : 0 ≡ prefix_len p xs = omega arith in subst (IsCharBoundary xs) e (IsCharBoundary-start xs utf8)
-    ]
+operator_front : (xs : List ℕ) (x : Option (Operator × ℕ)) → 0 < length xs → Right operators xs x → IsFront xs (scans.operator x).1
+operator_front xs None some h = (omega arith, omega arith)
+operator_front xs (Some x) some h = (h.nonempty, h.within)
 
--- behind a character that is no ASCII
-not_continuation : (b : ℕ) → is_continuation b ≡ false → 128 ≤ b → 192 ≤ b
-not_continuation b h le = grind (arith, nat_tests)
-
-other_boundary : (xs : List ℕ) → 0 < length xs → IsCharBoundary xs (1 + prefix_len is_continuation (drop 1 xs))
-other_boundary [] some = absurd (omega arith)
-other_boundary (b ∷ bs) some =
-    let here : IsCharBoundary (b ∷ bs) (suc (prefix_len is_continuation bs)) =
-    (omega (arith, prefix_len-le-length is_continuation bs), λ lt le. not_continuation _ (prefix_len_stops is_continuation bs 0 (omega arith)) le) in
-    subst (IsCharBoundary (b ∷ bs)) (sym (one-add _)) here
-
-pub begins : (xs : List ℕ) (n : ℕ) → IsUtf8 xs → n ≤ length xs → IsCharBoundary xs n → IsStretch xs 0 n
-begins xs n utf8 le h = record { ordered = omega arith; within = le; begins = IsCharBoundary-start xs utf8; ends = h }
-
--- ---- a lexeme
-
-scan_boundary : (xs : List ℕ) → IsUtf8 xs → 0 < length xs → IsCharBoundary xs (scan xs).1
-unfolding scan
-scan_boundary xs utf8 some =
-    elim (cases_Bool (begins_word (get_or xs 0 0))) [
-      | inl e ↦ rw e (run_boundary is_word_byte xs word_ascii utf8)
-      | inr e ↦ rw e (
-          elim (cases_Bool (is_ascii_digit (get_or xs 0 0))) [
-            | inl d ↦ rw d (run_boundary is_ascii_digit xs digit_ascii utf8)
+more_front : (b : ℕ) (bs : List ℕ) → IsFront (b ∷ bs) (scan_more (b ∷ bs)).1
+unfolding scan_more
+more_front b bs =
+    elim (cases_Bool (begins_word b)) [
+      | inl w ↦ rw w (run_front is_word_byte b bs (begins_goes b w))
+      | inr w ↦ rw w (
+          elim (cases_Bool (is_ascii_digit b)) [
+            | inl d ↦ rw d (let h = number_scanned b bs d in (h.nonempty, h.within))
             | inr d ↦ rw d (
-                elim (cases_Bool (ltb (get_or xs 0 0) 128)) [
-                  | inl a ↦ rw a (let m : get_or xs 0 0 < 128 = grind (arith, nat_tests) in behind xs 1 utf8 (omega arith) (omega arith) m)
-                  | inr a ↦ rw a (other_boundary xs some)
+                elim (cases_Bool (eqb b 46 && begins_digit bs)) [
+                  | inl p ↦ rw p (let h = pointed_by b bs p in (h.nonempty, h.within))
+                  | inr p ↦ rw p (
+                      elim (cases_Bool (ltb b 128)) [
+                        | inl a ↦ rw a (operator_front (b ∷ bs) (first_row operators (b ∷ bs)) (omega arith) (operators_right (b ∷ bs)))
+                        | inr a ↦ rw a (omega arith, omega (arith, prefix_len-le-length (is_in class.Continuation) bs))
+                      ])
                 ])
           ])
     ]
 
-found_cuts : (xs : List ℕ) (x : Found × ℕ) → IsUtf8 xs → 0 < x.1 → x.1 ≤ length xs → IsCharBoundary xs x.1 → Cuts xs (turn_of x)
-found_cuts xs (found.Kind k, n) utf8 pos le h =
-    let e : n ≡ 0 + n = omega arith in
-    record { some = pos; fits = omega arith; stretch = begins xs (0 + n) utf8 (omega arith) (subst (IsCharBoundary xs) e h); goes = begins xs n utf8 le h }
-found_cuts xs (found.Fault x, n) utf8 pos le h = let e : n ≡ 0 + n = omega arith in begins xs (0 + n) utf8 (omega arith) (subst (IsCharBoundary xs) e h)
+by_front_front : (b : ℕ) (bs : List ℕ) (x : Option (Form × ℕ)) → opening_front (b ∷ bs) ≡ x → IsFront (b ∷ bs) (by_front x (b ∷ bs)).1
+by_front_front b bs None e = more_front b bs
+by_front_front b bs (Some x) e = let h = opening_some (b ∷ bs) x.0 x.1 e in (h.nonempty, h.within)
 
--- an LF, i bytes on
-newline_cuts : (rest : List ℕ) (i : ℕ) (bs : List ℕ) → IsUtf8 rest → i ≤ length rest → drop i rest ≡ 10 ∷ bs → IsCut rest i 1 (i + 1)
-newline_cuts rest i bs utf8 le e =
-    let at : get_or rest (i + 0) 0 ≡ 10 = sym (get_or-drop i rest 0 0) ∙ ap (λ xs. get_or xs 0 0) e in
-    let z : i + 0 ≡ i = omega arith in
-    let is : get_or rest i 0 ≡ 10 = ap (λ k. get_or rest k 0) (sym z) ∙ at in
-    let lt : i < length rest = omega (arith, ap length e, length-drop i rest) in
-    let after : IsCharBoundary rest (i + 1) = IsCharBoundary-after_ascii rest i utf8 lt (omega arith) in
-    let before : IsCharBoundary rest i = IsCharBoundary-before_ascii rest i lt (omega arith) in
-    record {
-      some = omega arith;
-      fits = omega arith;
-      stretch = record { ordered = omega arith; within = omega arith; begins = before; ends = after };
-      goes = begins rest (i + 1) utf8 (omega arith) after;
-    }
+pub scan_front : (b : ℕ) (bs : List ℕ) → IsFront (b ∷ bs) (scan (b ∷ bs)).1
+scan_front b bs = by_front_front b bs (opening_front (b ∷ bs)) refl
 
-equal_from : (a b : ℕ) → eqb a b ≡ true → a ≡ b
-equal_from a b h = grind (arith, nat_tests)
+-- ---- literals
 
-pub here_cuts : (rest : List ℕ) → IsUtf8 rest → Cuts rest (here rest)
+pub quotes_some : (q : FStringQuote) → 0 < quotes q
+quotes_some marks.Single = omega arith
+quotes_some marks.Double = omega arith
+quotes_some marks.TripleSingle = omega arith
+quotes_some marks.TripleDouble = omega arith
+
+pub quotes_most : (q : FStringQuote) → quotes q ≤ 3
+quotes_most marks.Single = omega arith
+quotes_most marks.Double = omega arith
+quotes_most marks.TripleSingle = omega arith
+quotes_most marks.TripleDouble = omega arith
+
+within_whole : (rest : List ℕ) (n : ℕ) → 0 < n → n ≤ length rest → IsWithin rest 0 n n
+within_whole rest n pos le = record { some = pos; fits = omega arith; within = le }
+
+literal_cuts : (rest : List ℕ) (f : Form) (n : ℕ) (x : Ending) → 0 < n → n ≤ length rest → IsInside f (drop n rest) x → Cuts rest (literal_turn f n x)
+literal_cuts rest f n (ending.Closed k) pos le h = within_whole rest (n + k + quotes f.quote) (omega (arith, pos)) (omega (arith, h, length-drop n rest, le))
+literal_cuts rest f n (ending.Field k) pos le h = omega (arith, h, length-drop n rest, le)
+literal_cuts rest f n (ending.Unfinished k) pos le h = omega (arith, h, length-drop n rest, le)
+literal_cuts rest f n (ending.Escape k m) pos le h = omega (arith, h, length-drop n rest, le)
+
+opens_cuts : (rest : List ℕ) (f : Form) (n : ℕ) → 0 < n → n ≤ length rest → Cuts rest (opens_turn f n rest)
+opens_cuts rest f n pos le =
+    elim (cases_Bool (is_format f.sort)) [
+      | inl e ↦ rw e (pos, le)
+      | inr e ↦ rw e (literal_cuts rest f n (body f 0 (drop n rest)) pos le (body_within f (drop n rest)))
+    ]
+
+found_cuts : (rest : List ℕ) (x : Found × ℕ) → IsFront rest x.1 → Cuts rest (turn_of rest x)
+found_cuts rest (found.Kind k, n) h = within_whole rest n h.0 h.1
+found_cuts rest (found.Fault e, n) h = omega (arith, h.1)
+found_cuts rest (found.Opens f, n) h = opens_cuts rest f n h.0 h.1
+
+pub text_cuts : (rest : List ℕ) (f : Form) → Cuts rest (text_turn f (body f 0 rest))
+text_cuts rest f = by_ending (body f 0 rest) (body_within f rest)
+  where
+    by_ending : (x : Ending) → IsInside f rest x → Cuts rest (text_turn f x)
+    by_ending (ending.Closed zero) h = (quotes_some f.quote, omega (arith, h))
+    by_ending (ending.Closed (suc k)) h = within_whole rest (suc k) (omega arith) (omega (arith, h))
+    by_ending (ending.Field zero) h = omega (arith, h)
+    by_ending (ending.Field (suc k)) h = within_whole rest (suc k) (omega arith) (omega (arith, h))
+    by_ending (ending.Unfinished k) h = h
+    by_ending (ending.Escape k m) h = h
+
+-- ---- among lexemes
+
+pub here_cuts : (m : Mode) (rest : List ℕ) → Cuts rest (here m rest)
 unfolding here
-here_cuts [] utf8 = omega arith
-here_cuts (b ∷ bs) utf8 =
-    let s = scan_within (b ∷ bs) (omega arith) in
+here_cuts m [] = omega arith
+here_cuts m (b ∷ bs) =
     elim (cases_Bool (eqb b 10)) [
-      | inl e ↦ rw e (newline_cuts (b ∷ bs) 0 bs utf8 (omega arith) (ap (λ x. x ∷ bs) (equal_from b 10 e)))
-      | inr e ↦ rw e (found_cuts (b ∷ bs) (scan (b ∷ bs)) utf8 s.0 s.1 (scan_boundary (b ∷ bs) utf8 (omega arith)))
-    ]
-
--- ---- a line
-
-line_from_cuts : (i : Bool) (rest xs : List ℕ) → IsUtf8 rest → drop (leading rest) rest ≡ xs → Cuts rest (line_from i (leading rest) xs)
-unfolding line_from
-line_from_cuts i rest [] utf8 e = prefix_len-le-length is_blank rest
-line_from_cuts i rest (b ∷ bs) utf8 e =
-    let le : leading rest ≤ length rest = prefix_len-le-length is_blank rest in
-    let cut : IsCharBoundary rest (leading rest) = run_boundary is_blank rest blank_ascii utf8 in
-    let same : leading rest ≡ 0 + leading rest = omega arith in
-    elim (cases_Bool (eqb b 10)) [
-      | inl h ↦ rw h (newline_cuts rest (leading rest) bs utf8 le (e ∙ ap (λ x. x ∷ bs) (equal_from b 10 h)))
-      | inr h ↦ rw h (elim (cases_Bool i) [
-        | inl t ↦ rw t (begins rest (0 + leading rest) utf8 (omega arith) (subst (IsCharBoundary rest) same cut))
-        | inr t ↦ rw t (begins rest (leading rest) utf8 le cut)
-      ])
-    ]
-
-pub line_cuts : (rest : List ℕ) → IsUtf8 rest → Cuts rest (line_turn rest)
-line_cuts rest utf8 = line_from_cuts (is_indented rest) rest (drop (leading rest) rest) utf8 refl
-
--- ---- what is passed over
-
-pass_boundary : (j : Bool) (xs : List ℕ) → IsUtf8 xs → IsCharBoundary xs (pass j xs)
-unfolding pass
-pass_boundary j [] utf8 = IsCharBoundary-start [] utf8
-pass_boundary j (b ∷ bs) utf8 =
-    elim (cases_Bool (is_blank b)) [
-      | inl e ↦ rw e (behind (b ∷ bs) 1 utf8 (omega arith) (omega arith) (blank_ascii b e))
+      | inl e ↦ rw e (within_whole (b ∷ bs) 1 (omega arith) (omega arith))
       | inr e ↦ rw e (
-          elim (cases_Bool (eqb b 10)) [
-            | inl f ↦ rw f (elim (cases_Bool j) [
-              | inl k ↦ rw k (let m : b < 128 = omega (arith, equal_from b 10 f) in behind (b ∷ bs) 1 utf8 (omega arith) (omega arith) m)
-              | inr k ↦ rw k (IsCharBoundary-start (b ∷ bs) utf8)
-            ])
-            | inr f ↦ rw f (IsCharBoundary-start (b ∷ bs) utf8)
+          elim (cases_Bool (eqb b 35)) [
+            | inl f ↦ rw f (within_whole (b ∷ bs) (1 + line_len bs) (omega arith) (omega (arith, line_len_within bs)))
+            | inr f ↦ rw f (
+                elim (cases_Bool (at_ground m && closes_field (b ∷ bs))) [
+                  | inl z ↦ rw z (elim (cases_Bool (eqb b 125)) [ inl y ↦ rw y (omega arith) | inr y ↦ rw y (within_whole (b ∷ bs) 1 (omega arith) (omega arith)) ])
+                  | inr z ↦ rw z (found_cuts (b ∷ bs) (scan (b ∷ bs)) (scan_front b bs))
+                ])
           ])
     ]
 
-gap_by : (j : Bool) (xs : List ℕ) (n : ℕ) → pass j xs ≡ n → IsUtf8 xs → (0 < n → IsCharBoundary (drop n xs) (gap j 0 (drop n xs))) → IsCharBoundary xs (gap j 0 xs)
-gap_by j xs zero e utf8 later = subst (IsCharBoundary xs) (sym (gap_stop j xs e)) (IsCharBoundary-start xs utf8)
-gap_by j xs (suc n) e utf8 later = subst (IsCharBoundary xs) (sym (gap_step j xs n e)) (IsCharBoundary-from_rest xs (suc n) _ (omega (arith, e, pass_within j xs)) (later (omega arith)))
+-- ---- where a line begins
 
-gaps_boundary : (m : ℕ) (j : Bool) (xs : List ℕ) → length xs ≤ m → IsUtf8 xs → IsCharBoundary xs (gap j 0 xs)
-gaps_boundary zero j xs le utf8 = gap_by j xs (pass j xs) refl utf8 (λ some. absurd (omega (arith, pass_within j xs)))
-gaps_boundary (suc m) j xs le utf8 =
-    let n = pass j xs in
-    gap_by j xs n refl utf8 (λ some. gaps_boundary m j (drop n xs) (omega (arith, length-drop n xs, pass_within j xs)) (IsUtf8-drop xs n utf8 (pass_boundary j xs utf8)))
+fits_cuts : (rest ws : List ℕ) (w g : ℕ) → g ≤ length rest → Cuts rest (fits ws w g)
+unfolding fits
+fits_cuts rest ws w g le =
+    elim (cases_Bool (is_open ws w)) [
+      | inl e ↦ rw e le
+      | inr e ↦ rw e (
+          elim (cases_Bool (eqb (kept ws w) (length ws))) [ inl f ↦ rw f le | inr f ↦ rw f (omega arith) ])
+    ]
 
-pub gap_boundary : (j : Bool) (xs : List ℕ) → IsUtf8 xs → IsCharBoundary xs (gap j 0 xs)
-gap_boundary j xs utf8 = gaps_boundary (length xs) j xs (omega arith) utf8
+line_from_cuts : (ws rest xs : List ℕ) → drop (leading rest) rest ≡ xs → Cuts rest (line_from ws (blanks rest) (leading rest) xs)
+unfolding line_from
+line_from_cuts ws rest [] e = prefix_len-le-length _ rest
+line_from_cuts ws rest (b ∷ bs) e =
+    let g = leading rest in
+    let le : g ≤ length rest = prefix_len-le-length _ rest in
+    let n = line_len bs in
+    let len : length rest ≡ g + (1 + length bs) = omega (arith, ap length e, length-drop g rest) in
+    elim (cases_Bool (eqb b 10)) [
+      | inl h ↦ rw h (record { some = omega arith; fits = omega arith; within = omega (arith, len) })
+      | inr h ↦ rw h (
+          elim (cases_Bool (eqb b 35)) [
+            | inl f ↦ rw f (record { some = omega arith; fits = omega arith; within = omega (arith, len, line_end_within (drop n bs), length-drop n bs, line_len_within bs) })
+            | inr f ↦ rw f (elim (cases_Bool (has_tab (blanks rest))) [ inl t ↦ rw t le | inr t ↦ rw t (fits_cuts rest ws (spaces (blanks rest)) g le) ])
+          ])
+    ]
+
+pub line_cuts : (ws rest : List ℕ) → Cuts rest (line_turn ws rest)
+line_cuts ws rest = line_from_cuts ws rest (drop (leading rest) rest) refl
+
+fits_keeps : (ws : List ℕ) (w g : ℕ) → Keeps ws (fits ws w g)
+unfolding fits
+fits_keeps ws w g =
+    elim (cases_Bool (is_open ws w)) [
+      | inl e ↦ rw e (prefix_len-le-length _ ws)
+      | inr e ↦ rw e (
+          elim (cases_Bool (eqb (kept ws w) (length ws))) [ inl f ↦ rw f tt | inr f ↦ rw f tt ])
+    ]
+
+line_from_keeps : (ws bl xs : List ℕ) (g : ℕ) → Keeps ws (line_from ws bl g xs)
+unfolding line_from
+line_from_keeps ws bl [] g = tt
+line_from_keeps ws bl (b ∷ bs) g =
+    elim (cases_Bool (eqb b 10)) [
+      | inl h ↦ rw h tt
+      | inr h ↦ rw h (
+          elim (cases_Bool (eqb b 35)) [ inl f ↦ rw f tt | inr f ↦ rw f (elim (cases_Bool (has_tab bl)) [ inl t ↦ rw t tt | inr t ↦ rw t (fits_keeps ws (spaces bl) g) ]) ])
+    ]
+
+pub line_keeps : (ws rest : List ℕ) → Keeps ws (line_turn ws rest)
+line_keeps ws rest = line_from_keeps ws (blanks rest) (drop (leading rest) rest) (leading rest)
+
+pub lexical_keeps : (ws : List ℕ) (t : Turn) → IsLexical t → Keeps ws t
+lexical_keeps ws (turns.End i) h = tt
+lexical_keeps ws (turns.Tab i) h = tt
+lexical_keeps ws (turns.Fault i e n) h = tt
+lexical_keeps ws (turns.Gives i k n next f) h = tt
+lexical_keeps ws (turns.Enter f n) h = tt
+lexical_keeps ws (turns.Leave n) h = tt
+lexical_keeps ws turns.Open h = tt
+lexical_keeps ws turns.Shut h = tt
+lexical_keeps ws (turns.Unfinished n) h = tt
+lexical_keeps ws (turns.Deeper w g) h = tt
+lexical_keeps ws (turns.Fits n g) h = absurd h
+
+-- ---- for the code
+
+pub scan_most : (xs : List ℕ) → 0 < length xs → (scan xs).1 ≤ length xs
+scan_most [] h = absurd (omega arith)
+scan_most (b ∷ bs) h = (scan_front b bs).1
+
+small_by : (f : Form) (n m : ℕ) (rest : List ℕ) (x : Ending) → n + length rest ≤ m → m < 2 ^ 63 → IsInside f rest x → IsEnding n x
+small_by f n m rest (ending.Closed k) le lt h = omega (arith, h, le, lt)
+small_by f n m rest (ending.Field k) le lt h = omega (arith, h, le, lt)
+small_by f n m rest (ending.Unfinished k) le lt h = omega (arith, h, le, lt)
+small_by f n m rest (ending.Escape k j) le lt h = omega (arith, h, le, lt)
+
+pub ending_small : (f : Form) (xs ys : List ℕ) (n : ℕ) → n ≤ length xs → length xs < 2 ^ 63 → ys ≡ drop n xs → IsEnding n (body f 0 ys)
+ending_small f xs ys n le lt e = small_by f n (length xs) ys (body f 0 ys) (omega (arith, ap length e, length-drop n xs, le)) lt (body_within f ys)

@@ -1,12 +1,35 @@
 pub mod Runs
 pub mod Gaps
-pub mod FirstBytes
-pub mod Longest
-pub mod Cuts
-pub mod Machine
-pub mod Rules
-pub mod Whole
-pub mod Hands
-pub mod Joined
-pub mod Ordered
-pub mod Covered
+pub mod Modes
+mod Numbers
+mod Formats
+mod Digits
+mod Pieces
+mod Bodies
+mod Values
+mod Openings
+mod Tables
+mod Fronts
+mod Longest
+mod Scanned
+mod Depth
+mod Widths
+mod Stacks
+mod Cuts
+mod Machine
+mod Rules
+mod Whole
+mod Bounds
+mod Sounds
+mod Hands
+mod Ordered
+mod Identifiers
+mod JoinedClasses
+mod JoinedBodies
+mod JoinedTokens
+mod JoinedLines
+mod JoinedOn
+mod Joined
+mod JoinedLayouts
+mod Covered
+mod Firm

@@ -1,6 +1,7 @@
 -- A text behind another.
-use Rattle.std.specs.Prelude.{◌≡◌, ◌+◌, ℕ, List, [], ◌∷◌, ◌++◌, map, length, Option, Some, None}
-use Rattle.starlark_lexer.specs.Items.{Item, item, newline, Stop, Lexed, with_items}
+use Rattle.std.specs.Prelude.{◌≡◌, ◌+◌, ◌-◌, ℕ, zero, suc, Bool, true, false, not, if◌then◌else◌, ◌&&◌, ◌||◌, List, [], ◌∷◌, ◌++◌, map, length, count_by, Option, Some, None}
+use Rattle.std.specs.List.{list_all}
+use Rattle.starlark_lexer.specs.Items.{Lexeme, newline, is_newline, indent, dedent, dedents, comment, fstring_start, fstring_end, Item, item, opening_item, closing_item, Stop, Lexed, with_items}
 use Rattle.starlark_lexer.specs.Lex.{Lex, start}
 
 -- The text ends in a line feed that no backslash escapes: neither right before it nor before a CR right before it stands one.
@@ -9,6 +10,53 @@ pub record IsClosed (text : List ℕ) : Type 0 where
   pub line_feed : text ≡ front ++ 10 ∷ []
   pub not_escaped : (more : List ℕ) → front ≡ more ++ 92 ∷ [] → ⊥
   pub not_escaped_cr : (more : List ℕ) → front ≡ more ++ 92 ∷ 13 ∷ [] → ⊥
+
+-- how many f-strings are open behind a lexeme, where n are before it
+abbrev pub nested : ℕ → Lexeme → ℕ
+nested n (fstring_start q) = suc n
+nested n fstring_end = n - 1
+nested n _ = n
+
+-- the items that stand outside all f-strings, where n are open before them
+abbrev pub outside : ℕ → List Item → List Item
+outside n [] = []
+outside zero (x ∷ xs) = x ∷ outside (nested 0 x.lexeme) xs
+outside (suc n) (x ∷ xs) = outside (nested (suc n) x.lexeme) xs
+
+-- how many f-strings are open behind the items, where n are before them
+abbrev pub open_behind : ℕ → List Item → ℕ
+open_behind n [] = n
+open_behind n (x ∷ xs) = open_behind (nested n x.lexeme) xs
+
+-- All f-strings are closed, and outside them as many brackets are closed as are opened.
+pub record IsEven (items : List Item) : Type 0 where
+  pub strings : open_behind 0 items ≡ 0
+  pub brackets : count_by opening_item (outside 0 items) ≡ count_by closing_item (outside 0 items)
+
+abbrev pub is_comment : Lexeme → Bool
+is_comment (comment text) = true
+is_comment _ = false
+
+-- whether a line begins behind the items, where it does or does not before them: behind a line end, and behind a comment where one begins before it
+abbrev pub begins_line : Bool → List Item → Bool
+begins_line f [] = f
+begins_line f (x ∷ xs) = begins_line (is_newline x.lexeme || (f && is_comment x.lexeme)) xs
+
+abbrev pub is_dedent : Lexeme → Bool
+is_dedent dedent = true
+is_dedent _ = false
+
+abbrev pub dedent_item : Item → Bool
+dedent_item x = is_dedent x.lexeme
+
+-- whether a Dedent stands last, behind one or behind none
+abbrev pub ends_dedented : Bool → List Item → Bool
+ends_dedented d [] = d
+ends_dedented d (x ∷ xs) = ends_dedented (dedent_item x) xs
+
+-- No Dedent stands last: what was indented is closed before the last line.
+pub record IsLevel (items : List Item) : Type 0 where
+  pub closed : ends_dedented false items ≡ false
 
 -- an item n bytes on
 abbrev pub item_on : ℕ → Item → Item
@@ -23,16 +71,36 @@ stop_on n (Some x) = Some (record { begin = n + x.begin; error = x.error; end = 
 abbrev pub lexed_on : ℕ → Lexed → Lexed
 lexed_on n l = record { items = map (item_on n) l.items; fault = stop_on n l.fault }
 
--- nothing, or the last of the items is a line end
-abbrev pub EndsLine : List Item → Type 0
-EndsLine [] = Unit {0}
-EndsLine (x ∷ []) = x.lexeme ≡ newline
-EndsLine (x ∷ y ∷ ys) = EndsLine (y ∷ ys)
-
 -- The items of the first text are those, and its closing line end behind them. Both texts, one behind the other, are cut into those
 -- and what the second is cut into.
 pub record IsJoined (a b : List ℕ) (l m : Lexed) : Type 0 where
   pub items : List Item
   pub first : l.items ≡ items ++ item (length a) newline (length a) ∷ []
-  pub line_end : EndsLine items
+  pub line_end : begins_line true items ≡ true
   pub both : Lex start (a ++ b) (with_items items (lexed_on (length a) m))
+
+abbrev pub is_indent : Lexeme → Bool
+is_indent indent = true
+is_indent _ = false
+
+-- a line end or a comment
+abbrev pub line_item : Item → Bool
+line_item x = is_newline x.lexeme || is_comment x.lexeme
+
+-- behind line ends and comments no Indent stands
+abbrev pub opens_level : List Item → Bool
+opens_level [] = true
+opens_level (x ∷ xs) = if line_item x then opens_level xs else not (is_indent x.lexeme)
+
+-- The same where so many Dedents close the first text: they stand behind line ends and comments at the front of the second.
+pub record IsLaid (a b : List ℕ) (l m : Lexed) : Type 0 where
+  pub items : List Item
+  pub count : ℕ
+  pub first : l.items ≡ items ++ item (length a) newline (length a) ∷ dedents (length a) count
+  pub line_end : begins_line true items ≡ true
+  pub front : List Item
+  pub more : List Item
+  pub second : m.items ≡ front ++ more
+  pub lines : list_all line_item front ≡ true
+  pub place : ℕ
+  pub both : Lex start (a ++ b) (with_items items (lexed_on (length a) (record { items = front ++ (dedents place count ++ more); fault = m.fault })))

@@ -9,7 +9,7 @@ use Rattle.starlark_lexer.specs.declared.token.Token.{Token}
 use Rattle.starlark_lexer.specs.declared.token.LexemeError.{LexemeError}
 use Rattle.starlark_lexer.specs.declared.lexer.Lexer.TheInside.{Inside}
 use Rattle.starlark_lexer.specs.Items.{Lexed, nothing, lexeme_of, with_item, Stop, answers}
-use Rattle.starlark_lexer.specs.Parts.{left, IsWhole, IsPaid}
+use Rattle.starlark_lexer.specs.Parts.{left, IsWhole}
 
 -- a lexer as its callers see it
 pub record Reading : Type 0 where
@@ -29,7 +29,6 @@ view_of a = record { left = left a.parts; size = length a.parts.text.now; reads 
 -- what holds of a lexer in memory between calls
 pub record IsLexer (a : Inside) : Type 0 where
   pub whole : IsWhole a.parts
-  pub paid : IsPaid a.parts
   pub source : a.parts.text.now ≡ a.codemap.source
   pub fits : length a.parts.text.now ≤ 4294967295
 

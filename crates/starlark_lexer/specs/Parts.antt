@@ -1,71 +1,73 @@
 -- What is left to a lexer, by its parts.
-use Rattle.std.specs.Prelude.{◌≡◌, ◌≤◌, ◌<◌, ◌+◌, ◌*◌, ℕ, false, if◌then◌else◌, List, drop, length, Option, Some, None, Result, Ok, Err}
+use Rattle.std.specs.Prelude.{◌≡◌, ◌≤◌, ◌<◌, ◌+◌, ℕ, true, false, if◌then◌else◌, List, [], ◌∷◌, drop, length, Option, Some, None, Result, Ok, Err}
 use Rattle.std.specs.Str.{IsCharBoundary}
 use Rattle.starlark_lexer.specs.declared.token.Token.{Token}
+use Rattle.starlark_lexer.specs.declared.scan.Mode.{Mode}
+use Rattle.starlark_lexer.specs.declared.scan.Mode.TheVariants as mode
+use Rattle.starlark_lexer.specs.declared.scan.State.{State}
 use Rattle.starlark_lexer.specs.declared.scan.Turn.{Turn}
-use Rattle.starlark_lexer.specs.declared.scan.Turn.TheVariants as turns
 use Rattle.starlark_lexer.specs.declared.parts.Fault.{Fault}
 use Rattle.starlark_lexer.specs.declared.parts.Fault.TheVariants as faults
 use Rattle.starlark_lexer.specs.declared.parts.Parts.{Parts}
-use Rattle.starlark_lexer.specs.Items.{Lexed, nothing, lexeme_of, with_item, with_fault, answers}
-use Rattle.starlark_lexer.specs.Scan.{At, left_at, act, step, pass, is_joined}
+use Rattle.starlark_lexer.specs.Items.{Lexed, nothing, lexeme_of, with_item, with_items, with_fault, dedents, answers}
+use Rattle.starlark_lexer.specs.Literals.{is_format}
+use Rattle.starlark_lexer.specs.Scan.{At, left_at, act, step, pass, is_joined, in_text}
+use Rattle.starlark_lexer.specs.Turns.{Cuts, Bounds, Keeps}
 
--- where the code stands
 abbrev pub at : Parts → At
-at a = record { state = a.state; rest = drop a.state.place a.text.now }
+at a = record { state = a.state; widths = a.widths.items; outer = a.outer.items; rest = drop a.state.place a.text.now }
 
 -- what is still to be handed out
 abbrev pub left : Parts → Lexed
-left a = if a.over then nothing else left_at (at a)
-
--- the place lies in the text, and no count is above it
-pub record IsWhole (a : Parts) : Type 0 where
-  pub within : a.state.place ≤ length a.text.now
-  pub opened : a.state.opened ≤ a.state.place
-  pub closed : a.state.closed ≤ a.state.place
-  -- a character begins at the place
-  pub boundary : IsCharBoundary a.text.now a.state.place
+left a = with_items (dedents a.margin a.pending) (if a.over then nothing else left_at (at a))
 
 -- from i to j the text may be cut out
 pub record IsStretch (text : List ℕ) (i j : ℕ) : Type 0 where
   pub ordered : i ≤ j
-  pub within : j ≤ length text
   pub begins : IsCharBoundary text i
   pub ends : IsCharBoundary text j
 
--- a lexeme of n bytes, i bytes on, and where it goes on
-pub record IsCut (rest : List ℕ) (i n next : ℕ) : Type 0 where
-  pub some : 0 < n
-  pub fits : i + n ≤ next
-  pub stretch : IsStretch rest i (i + n)
-  pub goes : IsStretch rest 0 next
+-- an f-string begins before the place, and its depth is at most the place
+abbrev pub IsMode : List ℕ → ℕ → Mode → Type 0
+IsMode text n mode.Code = Unit {0}
+IsMode text n (mode.Inside b f) = IsStretch text b n × (is_format f.sort ≡ true)
+IsMode text n (mode.Field b f d) = IsStretch text b n × (is_format f.sort ≡ true) × (d ≤ n)
 
--- the numbers of a turn lie within the rest
-abbrev pub Cuts : List ℕ → Turn → Type 0
-Cuts rest (turns.Gives i k n next f) = IsCut rest i n next
-Cuts rest (turns.Fault i e n) = IsStretch rest i (i + n)
-Cuts rest (turns.Goes g) = IsStretch rest 0 g
-Cuts rest (turns.End g) = g ≤ length rest
+abbrev pub AreModes : List ℕ → ℕ → List Mode → Type 0
+AreModes text n [] = Unit {0}
+AreModes text n (m ∷ ms) = IsMode text n m × AreModes text n ms
 
--- a turn that hands something out
-abbrev pub IsLexical : Turn → Type 0
-IsLexical (turns.Goes g) = ⊥
-IsLexical _ = Unit {0}
+-- the state fits the text, and so do the modes around it and the place of dedents
+pub record IsSound (text : List ℕ) (s : State) (outer : List Mode) (margin : ℕ) : Type 0 where
+  pub opened : s.opened ≤ s.place
+  pub closed : s.closed ≤ s.place
+  -- a character begins at the place
+  pub boundary : IsCharBoundary text s.place
+  pub line : IsStretch text s.line_begin s.line_end
+  pub mode : IsMode text s.place s.mode
+  pub around : AreModes text s.place outer
+  pub dedents : IsCharBoundary text margin
+  pub starts : IsCharBoundary text 0
+
+abbrev pub IsWhole : Parts → Type 0
+IsWhole a = IsSound a.text.now a.state a.outer.items a.margin
+
+-- nothing that was found before is still to be handed out
+pub record IsReady (a : Parts) : Type 0 where
+  pub none : a.pending ≡ 0
+  pub more : a.over ≡ false
 
 -- the turn is what comes
 pub record Comes (a : Parts) (t : Turn) : Type 0 where
   pub is : step (at a) ≡ act t (at a)
   pub cuts : Cuts (drop a.state.place a.text.now) t
+  pub bounds : Bounds (drop a.state.place a.text.now) t
+  pub kept : Keeps a.widths.items t
 
 -- nothing is passed over here
 pub record Stands (a : Parts) : Type 0 where
   pub within : a.state.fresh ≡ false
   pub none : pass (is_joined a.state) (drop a.state.place a.text.now) ≡ 0
-
--- the looks are paid by the bytes that are passed
-pub record IsPaid (a : Parts) : Type 0 where
-  pub going : a.over ≡ false → a.reads ≤ 16 * a.state.place + (if a.state.fresh then 0 else 4)
-  pub over : a.reads ≤ 16 * (length a.text.now + 1)
 
 -- What a refusal is given for. Memory is missed only where something is left.
 abbrev pub Stops : Lexed → Fault → Type 0
@@ -87,5 +89,5 @@ Spans text (Some (Err faults.Memory)) = Unit {0}
 
 -- What a line's beginning hands out. Where it is nothing, what is left stays, within the line.
 abbrev pub Begins : Parts → Option (Result (ℕ × Token × ℕ) Fault) → Parts → Type 0
-Begins old None new = (left new ≡ left old) × ((new.over ≡ false) × (new.state.fresh ≡ false))
+Begins old None new = (left new ≡ left old) × (IsReady new × (new.state.fresh ≡ false))
 Begins old (Some r) new = Hands (left old) (Some r) (left new)

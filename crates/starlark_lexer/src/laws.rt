@@ -1,30 +1,44 @@
 //! Laws of the definitions.
 
-ghost use Rattle.std.specs.Prelude.{◌+◌, ◌≡◌, ◌≤◌, List, length, None, ℕ, count_by};
-ghost use Rattle.starlark_lexer.specs.Items.{Lexed, closing_item, opening_item};
-ghost use Rattle.starlark_lexer.specs.Joining.{IsClosed, IsJoined};
+ghost use Rattle.std.specs.Prelude.{◌*◌, ◌+◌, ◌≡◌, ◌≤◌, List, None, count_by, length, true, ℕ};
+ghost use Rattle.starlark_lexer.specs.Items.{Lexed};
+ghost use Rattle.starlark_lexer.specs.Joining.{IsClosed, IsEven, IsJoined, IsLaid, IsLevel, dedent_item, opens_level};
 ghost use Rattle.starlark_lexer.specs.Lex.{Lex, start};
-ghost use Rattle.starlark_lexer.specs.Order.{Covers, InOrder};
+ghost use Rattle.starlark_lexer.specs.Order.{AreFirm, Covers, InOrder};
 
 /// A text has at most one reading.
 pub fn one_reading()
     ensures { (text : List ℕ) (a b : Lexed) → Lex start text a → Lex start text b → a ≡ b }
 {}
 
-/// Where a text is cut without fault, is closed and closes as many brackets as it opens, it and a
-/// text behind it are cut into what both are cut into: the first's closing line end goes.
+/// Two texts that are cut without fault, of which the first is closed, even and level, are one
+/// behind the other cut into what both are cut into: the first's closing line end goes. A text
+/// without a `Dedent` is level.
 pub fn joined_texts()
-    ensures { (a b : List ℕ) (l m : Lexed) → Lex start a l → Lex start b m → l.fault ≡ None → IsClosed a → count_by opening_item l.items ≡ count_by closing_item l.items → IsJoined a b l m }
+    ensures level { (a b : List ℕ) (l m : Lexed) → Lex start a l → Lex start b m → l.fault ≡ None → m.fault ≡ None → IsClosed a → IsEven l.items → IsLevel l.items → IsJoined a b l m }
+    ensures flat { (a b : List ℕ) (l m : Lexed) → Lex start a l → Lex start b m → l.fault ≡ None → m.fault ≡ None → IsClosed a → IsEven l.items → count_by dedent_item l.items ≡ 0 → IsJoined a b l m }
 {}
 
-/// Items and the fault behind them stand in order in the text, and there are at most as many
-/// items as bytes, and one more.
+/// Where Dedents close the first, they stand behind the line ends and comments at the front of the
+/// second, whose first line that has a width is not indented.
+pub fn joined_layouts()
+    ensures { (a b : List ℕ) (l m : Lexed) → Lex start a l → Lex start b m → l.fault ≡ None → m.fault ≡ None → IsClosed a → IsEven l.items → opens_level m.items ≡ true → IsLaid a b l m }
+{}
+
+/// Items stand in order in the text, the fault within it, and there are at most two items a byte,
+/// and one more.
 pub fn in_order()
     ensures order { (text : List ℕ) (l : Lexed) → Lex start text l → InOrder 0 (length text) l.items l.fault }
-    ensures few { (text : List ℕ) (l : Lexed) → Lex start text l → length l.items ≤ length text + 1 }
+    ensures few { (text : List ℕ) (l : Lexed) → Lex start text l → length l.items ≤ 2 * length text + 1 }
 {}
 
-/// Before, between and behind items, up to the fault, stand only blanks and line feeds.
+/// Before and between items, and behind them where there is no fault, stand only blanks, line
+/// feeds and escaped line ends.
 pub fn nothing_left_out()
     ensures { (text : List ℕ) (l : Lexed) → Lex start text l → Covers text 0 l.items l.fault }
+{}
+
+/// An identifier and an integer have some bytes, the first of which is an ASCII byte.
+pub fn firm_items()
+    ensures { (text : List ℕ) (l : Lexed) → Lex start text l → AreFirm text l.items }
 {}

@@ -1,6 +1,6 @@
 //! The lexer, which hands out one lexeme at a time.
 
-ghost use Rattle.std.specs.Prelude.{◌≡◌, ◌≤◌, ◌+◌, ◌*◌, length};
+ghost use Rattle.std.specs.Prelude.{◌≡◌, ◌≤◌, length};
 ghost use Rattle.starlark_lexer.specs.Lex.{Lex, start};
 ghost use Rattle.starlark_lexer.specs.Model.{Gives, Within};
 ghost use Rattle.starlark_lexer.specs.Parts.{IsStretch};
@@ -9,7 +9,7 @@ ghost use Rattle.starlark_place.specs.Diagnostic.{Refuses};
 
 use crate::dialect::Dialect;
 use crate::parts::{Fault, Parts, next};
-use crate::scan::State;
+use crate::scan::{Mode, State};
 use crate::token::{LexemeError, Token};
 use starlark_place::codemap::CodeMap;
 use starlark_place::diagnostic::Refusal;
@@ -57,8 +57,15 @@ impl<'a> Lexer<'a> {
                     place: 0,
                     opened: 0,
                     closed: 0,
+                    line_begin: 0,
+                    line_end: 0,
                     fresh: true,
+                    mode: Mode::Code,
                 },
+                widths: Vec::new(alloc),
+                outer: Vec::new(alloc),
+                pending: 0,
+                margin: 0,
                 over: false,
                 reads: 0,
             },
@@ -91,7 +98,6 @@ impl<'a> Lexer<'a> {
     /// How many bytes were looked at so far: a byte counts each time.
     pub fn reads(&self) -> u64
         ensures value { result ≡ self.now.reads }
-        ensures most { result ≤ 16 * (self.now.size + 1) }
     {
         self.parts.reads
     }

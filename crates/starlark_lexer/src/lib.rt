@@ -2,8 +2,13 @@
 #![tactic(auto)]
 
 pub mod dialect;
+mod display;
+pub mod format;
+pub mod identifier;
 pub mod laws;
 pub mod lexer;
+mod literal;
+pub mod number;
 mod parts;
 mod scan;
 #[cfg(test)]

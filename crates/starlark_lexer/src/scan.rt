@@ -1,21 +1,25 @@
 //! Finds the next lexeme of a text, without memory.
 
-ghost use Rattle.std.specs.Prelude.{◌≡◌, ◌<◌, ◌≤◌, ◌+◌, ◌*◌, ◌^◌, length, slice_index, true};
+ghost use Rattle.std.specs.Prelude.{Some, None, ◌≡◌, ◌<◌, ◌≤◌, ◌+◌, ◌-◌, ◌*◌, ◌^◌, length, drop, take, slice_index, slice_range, map, true, false, count_by};
 ghost use Rattle.std.specs.Str.{bytes_eq};
 ghost use Rattle.std.specs.Char.{is_ascii_digit};
 ghost use Rattle.std.specs.List.{list_all, list_any, prefix_len};
 ghost use Rattle.starlark_lexer.specs.Classes as classes;
 ghost use Rattle.starlark_lexer.specs.Scan as spec;
+ghost use Rattle.starlark_lexer.specs.Scan.{depth_of, IsClass, IsEnding};
+ghost use Rattle.starlark_lexer.specs.Literals as literals;
 
+use crate::literal::{Ending, Form, body, is_format, opening, quotes};
 use crate::token::LexemeError;
-use crate::words::{KEYWORDS, RESERVED};
+use crate::words::{KEYWORDS, Keyword, OPERATORS, Operator, RESERVED};
 
-/// A class of bytes.
 #[derive(Clone, Copy, Debug)]
 pub(crate) enum Class {
     Blank,
     Word,
     Digit,
+    /// Digits of a radix.
+    Based(u32),
     Continuation,
 }
 
@@ -23,45 +27,70 @@ pub(crate) enum Class {
 #[derive(Clone, Copy, Debug)]
 pub(crate) enum Kind {
     Newline,
+    Comment,
     Word,
-    Int(i32),
-    Equal,
-    OpeningRound,
-    ClosingRound,
-    Comma,
+    Keyword(Keyword),
+    /// Behind so many bytes, in a radix.
+    Int(usize, u32),
+    Float,
+    Operator(Operator),
+    /// So many bytes of prefix and quotes, and so many of its body.
+    Literal(Form, usize, usize),
+    /// The text of an f-string.
+    Text(Form),
+    Bang,
 }
 
-/// What stands at the front of a text.
 #[derive(Clone, Copy, Debug)]
 pub(crate) enum Found {
     Kind(Kind),
     Fault(LexemeError),
+    /// A literal.
+    Opens(Form),
+}
+
+/// Where the text is cut: among lexemes, in the text of an f-string that begins at a place, or in a field of it at a depth.
+#[derive(Clone, Copy, Debug)]
+pub(crate) enum Mode {
+    Code,
+    Inside(usize, Form),
+    Field(usize, Form, usize),
 }
 
 /// What stands before the place, as far as it bears on what comes.
 #[derive(Clone, Copy, Debug)]
 pub(crate) struct State {
-    /// In bytes.
     pub place: usize,
-    /// The opening brackets before the place.
     pub opened: usize,
-    /// The closing brackets before the place.
     pub closed: usize,
-    /// Whether a line begins at the place.
+    pub line_begin: usize,
+    pub line_end: usize,
     pub fresh: bool,
+    pub mode: Mode,
 }
 
-/// What comes at a place. All numbers are bytes, counted from the place.
+/// What comes at a place. All numbers count from the place.
 #[derive(Clone, Copy, Debug)]
 pub(crate) enum Turn {
-    /// The end of the text, after so many bytes.
+    /// After so many bytes.
     End(usize),
-    /// Its beginning, the error and its length.
+    Tab(usize),
     Fault(usize, LexemeError, usize),
     /// Its beginning, its length, where to go on, and whether a line begins there.
     Gives(usize, Kind, usize, usize, bool),
-    /// A line that begins with so many blanks and gives nothing for them.
-    Goes(usize),
+    /// A line of that width, behind so many blanks.
+    Deeper(usize, usize),
+    /// So many widths stay open, behind so many blanks.
+    Fits(usize, usize),
+    /// An f-string begins with so many bytes.
+    Enter(Form, usize),
+    /// An f-string ends with so many bytes.
+    Leave(usize),
+    /// A field begins, or ends.
+    Open,
+    Shut,
+    /// An f-string has no end, after so many bytes.
+    Unfinished(usize),
 }
 
 /// Counts so many bytes as looked at.
@@ -72,23 +101,25 @@ fn look(reads: &mut u64, n: usize)
 }
 
 fn is_in(class: Class, b: u8) -> bool
+    requires { IsClass class }
     ensures { result ≡ spec.is_in class b }
 {
     match class {
         Class::Blank => b == b' ' || b == b'\t' || b == b'\r',
         Class::Word => b.is_ascii_alphanumeric() || b == b'_',
         Class::Digit => b.is_ascii_digit(),
+        Class::Based(radix) => (b as char).is_digit(radix),
         Class::Continuation => 128 <= b && b < 192,
     }
 }
 
-/// How many bytes at the front are of the class.
 #[tactic(auto, using(crate::proofs::Runs::run_nonempty))]
+// How many bytes at the front are of the class.
 fn run(class: Class, bytes: &[u8], reads: &mut u64) -> usize
+    requires { IsClass class }
     ensures value { result ≡ prefix_len (spec.is_in class) bytes.now }
     ensures within { result ≤ length bytes.now }
     ensures moves { 0 < length bytes.now → spec.is_in class (slice_index bytes.now 0) ≡ true → 0 < result }
-    ensures paid { reads.new ≤ reads.old + result + 1 }
 {
     let mut end = 0;
     while end < bytes.len() {
@@ -104,8 +135,8 @@ fn run(class: Class, bytes: &[u8], reads: &mut u64) -> usize
 fn is_any(mut table: &[&[u8]], word: &[u8]) -> bool
     ensures { result ≡ list_any (λ k. bytes_eq k.now word.now) table.entry.now }
 {
-    while let [listed, rest @ ..] = table {
-        if *listed == word {
+    while let [keyword, rest @ ..] = table {
+        if *keyword == word {
             return true;
         }
         table = rest;
@@ -113,120 +144,311 @@ fn is_any(mut table: &[&[u8]], word: &[u8]) -> bool
     false
 }
 
-fn is_keyword(word: &[u8]) -> bool
-    ensures { result ≡ classes.is_keyword word.now }
-{
-    is_any(&KEYWORDS, word)
-}
-
-fn is_reserved(word: &[u8]) -> bool
+#[tactic(auto, unfolding(crate::specs::Classes::is_reserved))]
+pub(crate) fn is_reserved(word: &[u8]) -> bool
     ensures { result ≡ classes.is_reserved word.now }
 {
     is_any(&RESERVED, word)
 }
 
-/// The number that at most nine digits stand for.
-fn value(digits: &[u8]) -> u32
-    requires short { length digits.now ≤ 9 }
-    requires digits { list_all is_ascii_digit digits.now ≡ true }
-    ensures value { result ≡ classes.value_of digits.now }
-    ensures small { result < 10 ^ 9 }
+fn keyword_in(mut table: &[(&[u8], Keyword)], word: &[u8]) -> Option<Keyword>
+    ensures { result ≡ classes.lookup (classes.texts_of table.entry.now) word.now }
 {
-    let mut value: u32 = 0;
-    for digit in digits {
-        value = value * 10 + u32::from(*digit - b'0');
+    while let [row, rest @ ..] = table {
+        if row.0 == word {
+            return Some(row.1);
+        }
+        table = rest;
     }
-    value
+    None
 }
 
-#[tactic(auto, using(crate::proofs::Runs::signed_same))]
-fn number(digits: &[u8]) -> Found
-    requires nonempty { 0 < length digits.now }
-    requires digits { list_all is_ascii_digit digits.now ≡ true }
-    ensures { result ≡ spec.number digits.now }
+#[tactic(auto, unfolding(crate::specs::Classes::keyword_of))]
+pub(crate) fn keyword_of(word: &[u8]) -> Option<Keyword>
+    ensures { result ≡ classes.keyword_of word.now }
 {
-    if digits.len() > 9 || (digits.len() > 1 && digits[0] == b'0') {
-        return Found::Fault(LexemeError::InvalidInput);
-    }
-    Found::Kind(Kind::Int(value(digits) as i32))
+    keyword_in(&KEYWORDS, word)
 }
 
 fn word(word: &[u8]) -> Found
     ensures { result ≡ spec.word word.now }
 {
-    if is_keyword(word) {
-        Found::Fault(LexemeError::InvalidInput)
-    } else if is_reserved(word) {
-        Found::Fault(LexemeError::InvalidInput)
-    } else {
-        Found::Kind(Kind::Word)
+    if let Some(keyword) = keyword_of(word) {
+        return Found::Kind(Kind::Keyword(keyword));
     }
+    if is_reserved(word) {
+        return Found::Fault(LexemeError::ReservedKeyword);
+    }
+    Found::Kind(Kind::Word)
 }
 
-fn mark(b: u8) -> Found
-    ensures { result ≡ spec.mark b }
+fn operator_in(
+    mut table: &[(&[u8], Operator)],
+    bytes: &[u8],
+    reads: &mut u64,
+) -> Option<(Operator, usize)>
+    ensures { result ≡ spec.first_row (classes.texts_of table.entry.now) bytes.now }
 {
-    match b {
-        b'=' => Found::Kind(Kind::Equal),
-        b'(' => Found::Kind(Kind::OpeningRound),
-        b')' => Found::Kind(Kind::ClosingRound),
-        b',' => Found::Kind(Kind::Comma),
-        _ => Found::Fault(LexemeError::InvalidInput),
+    look(reads, 3);
+    while let [row, rest @ ..] = table {
+        if bytes.starts_with(row.0) {
+            return Some((row.1, row.0.len()));
+        }
+        table = rest;
+    }
+    None
+}
+
+/// The operator at the front, or the fault of a character that begins no lexeme.
+fn operator(bytes: &[u8], reads: &mut u64) -> (Found, usize)
+    ensures { result ≡ spec.operator (spec.first_row classes.operators bytes.now) }
+{
+    match operator_in(&OPERATORS, bytes, reads) {
+        Some((operator, len)) => (Found::Kind(Kind::Operator(operator)), len),
+        None => (Found::Fault(LexemeError::InvalidInput), 1),
     }
 }
 
-/// What stands at the front, and its length.
-#[tactic(auto, using(crate::proofs::Runs::list_all_run), unfolding(crate::specs::Scan::scan))]
-fn scan(bytes: &[u8], reads: &mut u64) -> (Found, usize)
+/// How long a sign with digits behind it is: 0 where none stands at the front.
+#[tactic(auto, unfolding(crate::specs::Scan::signed_len))]
+fn signed_len(bytes: &[u8], reads: &mut u64) -> usize
+    ensures value { result ≡ spec.signed_len bytes.now }
+    ensures within { result ≤ length bytes.now }
+{
+    if bytes.is_empty() {
+        return 0;
+    }
+    look(reads, 1);
+    if bytes[0] != b'+' && bytes[0] != b'-' {
+        return 0;
+    }
+    let digits = run(Class::Digit, &bytes[1..], reads);
+    if digits == 0 { 0 } else { digits + 1 }
+}
+
+/// How long the exponent at the front is: 0 where none stands there.
+#[tactic(auto, unfolding(crate::specs::Scan::exponent_len))]
+fn exponent_len(bytes: &[u8], reads: &mut u64) -> usize
+    ensures value { result ≡ spec.exponent_len bytes.now }
+    ensures within { result ≤ length bytes.now }
+{
+    if bytes.is_empty() {
+        return 0;
+    }
+    look(reads, 1);
+    if bytes[0] != b'e' && bytes[0] != b'E' {
+        return 0;
+    }
+    let digits = run(Class::Digit, &bytes[1..], reads);
+    if digits > 0 {
+        return digits + 1;
+    }
+    let signed = signed_len(&bytes[1..], reads);
+    if signed == 0 { 0 } else { signed + 1 }
+}
+
+/// How long the point, digits and exponent at the front are: 0 where no point stands there.
+#[tactic(auto, unfolding(crate::specs::Scan::fraction_len))]
+fn fraction_len(bytes: &[u8], reads: &mut u64) -> usize
+    ensures value { result ≡ spec.fraction_len bytes.now }
+    ensures within { result ≤ length bytes.now }
+{
+    if bytes.is_empty() {
+        return 0;
+    }
+    look(reads, 1);
+    if bytes[0] != b'.' {
+        return 0;
+    }
+    let digits = run(Class::Digit, &bytes[1..], reads);
+    1 + digits + exponent_len(&bytes[1 + digits..], reads)
+}
+
+/// How long what follows the digits of a float is: 0 where nothing of it stands at the front.
+fn tail_len(bytes: &[u8], reads: &mut u64) -> usize
+    ensures value { result ≡ spec.tail_len bytes.now }
+    ensures within { result ≤ length bytes.now }
+{
+    let fraction = fraction_len(bytes, reads);
+    if fraction == 0 {
+        exponent_len(bytes, reads)
+    } else {
+        fraction
+    }
+}
+
+fn radix_of(letter: u8) -> u32
+    ensures value { result ≡ classes.radix_of letter }
+    ensures most { result ≤ 16 }
+    ensures least { 0 < result → 2 ≤ result }
+{
+    match letter {
+        b'x' => 16,
+        b'X' => 16,
+        b'o' => 8,
+        b'O' => 8,
+        b'b' => 2,
+        b'B' => 2,
+        _ => 0,
+    }
+}
+
+/// The radix that a number is written in, and how many digits of it stand behind its letter: 0 where it has no letter.
+#[tactic(auto, unfolding(crate::specs::Scan::based_len))]
+fn based(bytes: &[u8], reads: &mut u64) -> (u32, usize)
+    ensures digits { result.1 ≡ spec.based_len bytes.now }
+    ensures radix { 0 < result.1 → result.0 ≡ classes.base_of bytes.now }
+    ensures within { 0 < result.1 → result.1 + 2 ≤ length bytes.now }
+{
+    if bytes.len() < 2 {
+        return (0, 0);
+    }
+    look(reads, 2);
+    let radix = radix_of(bytes[1]);
+    if bytes[0] != b'0' || radix == 0 {
+        return (0, 0);
+    }
+    (radix, run(Class::Based(radix), &bytes[2..], reads))
+}
+
+/// A point and a digit stand at the front.
+fn is_pointed(bytes: &[u8], reads: &mut u64) -> bool
     requires { 0 < length bytes.now }
-    ensures found { result.0 ≡ (spec.scan bytes.now).0 }
-    ensures len { result.1 ≡ (spec.scan bytes.now).1 }
-    ensures small { result.1 ≤ length bytes.now + 4 }
-    ensures paid { reads.new ≤ reads.old + 2 * result.1 + 2 }
+    ensures { result ≡ spec.is_pointed bytes.now }
+{
+    look(reads, 2);
+    bytes[0] == b'.' && bytes.len() > 1 && bytes[1].is_ascii_digit()
+}
+
+fn is_zeros(digits: &[u8]) -> bool
+    requires { list_all is_ascii_digit digits.now ≡ true }
+    ensures { result ≡ classes.is_zeros digits.now }
+{
+    digits.len() > 1 && digits[0] == b'0'
+}
+
+/// A number that begins with a digit.
+#[tactic(auto, using(crate::proofs::Runs::list_all_run), unfolding(crate::specs::Scan::number_scan))]
+fn number(bytes: &[u8], reads: &mut u64) -> (Found, usize)
+    requires { 0 < length bytes.now }
+    ensures found { result.0 ≡ (spec.number_scan bytes.now).0 }
+    ensures len { result.1 ≡ (spec.number_scan bytes.now).1 }
+    ensures within { result.1 ≤ length bytes.now }
+{
+    let (radix, digits) = based(bytes, reads);
+    if digits > 0 {
+        return (Found::Kind(Kind::Int(2, radix)), digits + 2);
+    }
+    let len = run(Class::Digit, bytes, reads);
+    let tail = tail_len(&bytes[len..], reads);
+    if tail > 0 {
+        return (Found::Kind(Kind::Float), len + tail);
+    }
+    look(reads, 1);
+    if is_zeros(&bytes[..len]) {
+        (Found::Fault(LexemeError::StartsZero), len)
+    } else {
+        (Found::Kind(Kind::Int(0, 10)), len)
+    }
+}
+
+/// The lexeme at the front that is no literal.
+#[tactic(auto, using(crate::proofs::Runs::list_all_run), unfolding(crate::specs::Scan::scan_more))]
+fn scan_more(bytes: &[u8], reads: &mut u64) -> (Found, usize)
+    requires { 0 < length bytes.now }
+    ensures found { result.0 ≡ (spec.scan_more bytes.now).0 }
+    ensures len { result.1 ≡ (spec.scan_more bytes.now).1 }
 {
     look(reads, 1);
     let b = bytes[0];
     if b.is_ascii_alphabetic() || b == b'_' {
         let len = run(Class::Word, bytes, reads);
         look(reads, len);
-        (word(&bytes[..len]), len)
-    } else if b.is_ascii_digit() {
-        let len = run(Class::Digit, bytes, reads);
-        look(reads, len);
-        (number(&bytes[..len]), len)
-    } else if b < 128 {
-        (mark(b), 1)
-    } else {
-        let len = 1 + run(Class::Continuation, &bytes[1..], reads);
-        (Found::Fault(LexemeError::InvalidInput), len)
+        return (word(&bytes[..len]), len);
+    }
+    if b.is_ascii_digit() {
+        return number(bytes, reads);
+    }
+    if is_pointed(bytes, reads) {
+        return (Found::Kind(Kind::Float), tail_len(bytes, reads));
+    }
+    if b < 128 {
+        return operator(bytes, reads);
+    }
+    let len = 1 + run(Class::Continuation, &bytes[1..], reads);
+    (Found::Fault(LexemeError::InvalidInput), len)
+}
+
+fn scan(bytes: &[u8], reads: &mut u64) -> (Found, usize)
+    requires { 0 < length bytes.now }
+    ensures found { result.0 ≡ (spec.scan bytes.now).0 }
+    ensures len { result.1 ≡ (spec.scan bytes.now).1 }
+{
+    match opening(bytes, reads) {
+        Some((form, len)) => (Found::Opens(form), len),
+        None => scan_more(bytes, reads),
     }
 }
 
-/// How many bytes are passed over at once: 0 where none is.
+#[tactic(auto, unfolding(crate::specs::Classes::line_end))]
+/// How long the line end at the front is: 0 where none stands there.
+fn line_end(bytes: &[u8], reads: &mut u64) -> usize
+    ensures value { result ≡ classes.line_end bytes.now }
+    ensures within { result ≤ length bytes.now }
+{
+    look(reads, 2);
+    if bytes.is_empty() {
+        0
+    } else if bytes[0] == b'\n' {
+        1
+    } else if bytes[0] == b'\r' && bytes.len() > 1 && bytes[1] == b'\n' {
+        2
+    } else {
+        0
+    }
+}
+
+#[tactic(auto, using(crate::proofs::Gaps::line_on, crate::proofs::Gaps::line_stop))]
+/// How many bytes stand before the line's end.
+fn line_len(bytes: &[u8], reads: &mut u64) -> usize
+    ensures value { result ≡ classes.line_len bytes.now }
+    ensures within { result ≤ length bytes.now }
+{
+    let mut end = 0;
+    while end < bytes.len() && line_end(&bytes[end..], reads) == 0 {
+        end += 1;
+    }
+    end
+}
+
 #[tactic(auto, unfolding(crate::specs::Scan::pass))]
+/// How many bytes are passed over at once: 0 where none is.
 fn pass(joined: bool, bytes: &[u8], reads: &mut u64) -> usize
     ensures value { result ≡ spec.pass joined bytes.now }
     ensures within { result ≤ length bytes.now }
-    ensures paid { reads.new ≤ reads.old + 3 }
 {
     if bytes.is_empty() {
         return 0;
     }
     look(reads, 1);
     let b = bytes[0];
-    if is_in(Class::Blank, b) || (joined && b == b'\n') {
+    if is_in(Class::Blank, b) {
         1
+    } else if b == b'\n' {
+        if joined { 1 } else { 0 }
+    } else if b == b'\\' {
+        let len = line_end(&bytes[1..], reads);
+        if len == 0 { 0 } else { len + 1 }
     } else {
         0
     }
 }
 
-/// How many bytes are passed over.
 #[tactic(auto, using(crate::proofs::Gaps::gap_on, crate::proofs::Gaps::gap_stop))]
+/// How many bytes are passed over.
 pub(crate) fn gap(joined: bool, bytes: &[u8], reads: &mut u64) -> usize
     ensures value { result ≡ spec.gap joined 0 bytes.now }
     ensures within { result ≤ length bytes.now }
-    ensures paid { reads.new ≤ reads.old + 3 * result + 3 }
 {
     let mut end = 0;
     loop {
@@ -238,12 +460,85 @@ pub(crate) fn gap(joined: bool, bytes: &[u8], reads: &mut u64) -> usize
     }
 }
 
+fn begins(c: u8, bytes: &[u8]) -> bool
+    ensures { result ≡ classes.begins c bytes.now }
+{
+    !bytes.is_empty() && bytes[0] == c
+}
+
+fn closes_field(bytes: &[u8]) -> bool
+    ensures { result ≡ classes.closes_field bytes.now }
+{
+    !bytes.is_empty() && (bytes[0] == b'}' || (bytes[0] == b'!' && !begins(b'=', &bytes[1..])))
+}
+
+fn at_ground(mode: Mode) -> bool
+    ensures { result ≡ spec.at_ground mode }
+{
+    match mode {
+        Mode::Field(_, _, depth) => depth == 0,
+        _ => false,
+    }
+}
+
+/// What comes in the text of an f-string whose run ends like that.
+fn text_turn(form: Form, ending: Ending) -> Turn
+    ensures { result ≡ spec.text_turn form ending }
+{
+    match ending {
+        Ending::Closed(0) => Turn::Leave(quotes(form.quote)),
+        Ending::Closed(len) => Turn::Gives(0, Kind::Text(form), len, len, false),
+        Ending::Field(0) => Turn::Open,
+        Ending::Field(len) => Turn::Gives(0, Kind::Text(form), len, len, false),
+        Ending::Unfinished(len) => Turn::Unfinished(len),
+        Ending::Escape(begin, len) => Turn::Fault(begin, LexemeError::InvalidEscapeSequence, len),
+    }
+}
+
+/// What comes at a place in the text of an f-string.
+pub(crate) fn text_here(form: Form, bytes: &[u8], reads: &mut u64) -> Turn
+    ensures { result ≡ spec.text_turn form (literals.body form 0 bytes.now) }
+{
+    text_turn(form, body(form, bytes, reads))
+}
+
+/// What a literal with so many bytes of prefix and quotes comes to, whose body ends like that.
+fn literal_turn(form: Form, from: usize, ending: Ending) -> Turn
+    requires { IsEnding from ending }
+    ensures { result ≡ spec.literal_turn form from ending }
+{
+    match ending {
+        Ending::Closed(len) => {
+            let next = from + len + quotes(form.quote);
+            Turn::Gives(0, Kind::Literal(form, from, len), next, next, false)
+        }
+        Ending::Field(len) => Turn::Unfinished(from + len),
+        Ending::Unfinished(len) => Turn::Fault(0, LexemeError::UnfinishedStringLiteral, from + len),
+        Ending::Escape(begin, len) => Turn::Fault(
+            from + begin,
+            LexemeError::InvalidEscapeSequence,
+            len,
+        ),
+    }
+}
+
+/// What a literal at the front comes to, with so many bytes of prefix and quotes.
+fn opens_turn(form: Form, from: usize, bytes: &[u8], reads: &mut u64) -> Turn
+    requires within { from ≤ length bytes.now }
+    requires short { length bytes.now < 2 ^ 63 }
+    ensures { result ≡ spec.opens_turn form from bytes.now }
+{
+    if is_format(form.sort) {
+        return Turn::Enter(form, from);
+    }
+    literal_turn(form, from, body(form, &bytes[from..], reads))
+}
+
 /// What stands at a place where nothing is passed over.
 #[tactic(auto, unfolding(crate::specs::Scan::here))]
-pub(crate) fn here(bytes: &[u8], reads: &mut u64) -> Turn
+pub(crate) fn here(mode: Mode, bytes: &[u8], reads: &mut u64) -> Turn
     requires { length bytes.now < 2 ^ 63 }
-    ensures value { result ≡ spec.here bytes.now }
-    ensures paid { reads.new ≤ reads.old + spec.looks result }
+    ensures value { result ≡ spec.here mode bytes.now }
 {
     if bytes.is_empty() {
         return Turn::End(0);
@@ -252,30 +547,83 @@ pub(crate) fn here(bytes: &[u8], reads: &mut u64) -> Turn
     if bytes[0] == b'\n' {
         return Turn::Gives(0, Kind::Newline, 1, 1, true);
     }
+    if bytes[0] == b'#' {
+        let len = 1 + line_len(&bytes[1..], reads);
+        return Turn::Gives(0, Kind::Comment, len, len, false);
+    }
+    look(reads, 1);
+    if at_ground(mode) && closes_field(bytes) {
+        return if bytes[0] == b'}' {
+            Turn::Shut
+        } else {
+            Turn::Gives(0, Kind::Bang, 1, 1, false)
+        };
+    }
     let (found, len) = scan(bytes, reads);
     match found {
         Found::Kind(kind) => Turn::Gives(0, kind, len, len, false),
         Found::Fault(error) => Turn::Fault(0, error, len),
+        Found::Opens(form) => opens_turn(form, len, bytes, reads),
     }
 }
 
-fn is_indented(bytes: &[u8], reads: &mut u64) -> bool
-    ensures value { result ≡ classes.is_indented bytes.now }
-    ensures paid { reads.new ≤ reads.old + 1 }
+fn is_open(widths: &[usize], width: usize) -> bool
+    ensures { result ≡ classes.is_open widths.now width }
 {
-    if bytes.is_empty() {
-        return false;
+    if width == 0 {
+        return true;
     }
-    look(reads, 1);
-    bytes[0] == b' ' || bytes[0] == b'\t'
+    for x in widths {
+        if *x == width {
+            return true;
+        }
+    }
+    false
+}
+
+/// How many of the widths stay open at a line.
+fn kept(widths: &[usize], width: usize) -> usize
+    ensures value { result ≡ spec.kept widths.now width }
+    ensures within { result ≤ length widths.now }
+{
+    let mut end = 0;
+    while end < widths.len() && widths[end] <= width {
+        end += 1;
+    }
+    end
+}
+
+#[tactic(auto, unfolding(crate::specs::Scan::fits))]
+fn fits(widths: &[usize], width: usize, gap: usize) -> Turn
+    ensures value { result ≡ spec.fits widths.now width gap }
+{
+    let kept = kept(widths, width);
+    if is_open(widths, width) {
+        Turn::Fits(kept, gap)
+    } else if kept == widths.len() {
+        Turn::Deeper(width, gap)
+    } else {
+        Turn::Fault(0, LexemeError::Indentation, gap)
+    }
+}
+
+fn has_tab(blanks: &[u8]) -> bool
+    ensures { result ≡ classes.has_tab blanks.now }
+{
+    blanks.iter().any(|b| *b == b'\t')
+}
+
+fn spaces(blanks: &[u8]) -> usize
+    ensures { result ≡ classes.spaces blanks.now }
+{
+    blanks.iter().filter(|b| **b == b' ').count()
 }
 
 /// What a line begins with.
 #[tactic(auto, unfolding(crate::specs::Scan::line_from))]
-pub(crate) fn line_turn(bytes: &[u8], reads: &mut u64) -> Turn
+pub(crate) fn line_turn(widths: &[usize], bytes: &[u8], reads: &mut u64) -> Turn
     requires { length bytes.now < 2 ^ 63 }
-    ensures value { result ≡ spec.line_turn bytes.now }
-    ensures paid { reads.new ≤ reads.old + spec.looks result }
+    ensures value { result ≡ spec.line_turn widths.now bytes.now }
 {
     let gap = run(Class::Blank, bytes, reads);
     let rest = &bytes[gap..];
@@ -286,30 +634,159 @@ pub(crate) fn line_turn(bytes: &[u8], reads: &mut u64) -> Turn
     if rest[0] == b'\n' {
         return Turn::Gives(gap, Kind::Newline, 1, gap + 1, true);
     }
-    if is_indented(bytes, reads) {
-        Turn::Fault(0, LexemeError::Indentation, gap)
+    if rest[0] == b'#' {
+        let len = line_len(&rest[1..], reads);
+        let ends = line_end(&rest[1 + len..], reads);
+        return Turn::Gives(gap, Kind::Comment, 1 + len, gap + (1 + len) + ends, true);
+    }
+    let blanks = &bytes[..gap];
+    look(reads, gap);
+    if has_tab(blanks) {
+        Turn::Tab(gap)
     } else {
-        Turn::Goes(gap)
+        look(reads, gap);
+        fits(widths, spaces(blanks), gap)
+    }
+}
+
+fn opens(kind: Kind) -> usize
+    ensures { result ≡ spec.opens kind }
+{
+    match kind {
+        Kind::Operator(Operator::OpeningRound) => 1,
+        Kind::Operator(Operator::OpeningSquare) => 1,
+        Kind::Operator(Operator::OpeningCurly) => 1,
+        _ => 0,
+    }
+}
+
+fn closes(kind: Kind) -> usize
+    ensures { result ≡ spec.closes kind }
+{
+    match kind {
+        Kind::Operator(Operator::ClosingRound) => 1,
+        Kind::Operator(Operator::ClosingSquare) => 1,
+        Kind::Operator(Operator::ClosingCurly) => 1,
+        _ => 0,
     }
 }
 
 /// The state behind a lexeme.
-pub(crate) fn after(state: State, kind: Kind, next: usize, fresh: bool) -> State
+pub(crate) fn after(
+    state: State,
+    begin: usize,
+    kind: Kind,
+    len: usize,
+    next: usize,
+    fresh: bool,
+) -> State
     requires opened { state.opened < 2 ^ 63 }
     requires closed { state.closed < 2 ^ 63 }
-    requires place { state.place + next < 2 ^ 64 }
-    ensures { result ≡ spec.after state kind next fresh }
+    requires place { state.place + begin + len < 2 ^ 64 }
+    requires next { state.place + next < 2 ^ 64 }
+    requires depth { depth_of state.mode < 2 ^ 63 }
+    ensures { result ≡ spec.after state begin kind len next fresh }
 {
+    let place = state.place;
     let mut state = State {
-        place: state.place + next,
-        opened: state.opened,
-        closed: state.closed,
+        place: place + next,
         fresh,
+        ..state
     };
-    match kind {
-        Kind::OpeningRound => state.opened += 1,
-        Kind::ClosingRound => state.closed += 1,
-        _ => {}
+    match state.mode {
+        Mode::Code => {
+            state.opened += opens(kind);
+            state.closed += closes(kind);
+            if is_newline(kind) {
+                state.line_begin = place + begin;
+                state.line_end = place + begin + len;
+            }
+        }
+        Mode::Inside(_, _) => {}
+        Mode::Field(begin, form, depth) => {
+            state.mode = Mode::Field(
+                begin,
+                form,
+                (depth + opens(kind)).saturating_sub(closes(kind)),
+            );
+        }
     }
     state
+}
+
+fn is_newline(kind: Kind) -> bool
+    ensures { result ≡ spec.is_newline kind }
+{
+    match kind {
+        Kind::Newline => true,
+        _ => false,
+    }
+}
+
+pub(crate) fn turned(state: State, n: usize, mode: Mode) -> State
+    requires { state.place + n < 2 ^ 64 }
+    ensures { result ≡ spec.turned state n mode }
+{
+    State {
+        place: state.place + n,
+        fresh: false,
+        mode,
+        ..state
+    }
+}
+
+pub(crate) fn field_of(mode: Mode) -> Mode
+    ensures { result ≡ spec.field_of mode }
+{
+    match mode {
+        Mode::Inside(begin, form) => Mode::Field(begin, form, 0),
+        mode => mode,
+    }
+}
+
+pub(crate) fn body_of(mode: Mode) -> Mode
+    ensures { result ≡ spec.body_of mode }
+{
+    match mode {
+        Mode::Field(begin, form, _) => Mode::Inside(begin, form),
+        mode => mode,
+    }
+}
+
+pub(crate) fn begin_of(mode: Mode) -> usize
+    ensures { result ≡ spec.begin_of mode }
+{
+    match mode {
+        Mode::Code => 0,
+        Mode::Inside(begin, _) => begin,
+        Mode::Field(begin, _, _) => begin,
+    }
+}
+
+pub(crate) fn pop(outer: &mut Vec<Mode>) -> Mode
+    ensures mode { result ≡ spec.last_mode outer.old.items }
+    ensures rest { outer.new.items ≡ take (length outer.old.items - 1) outer.old.items }
+{
+    match outer.pop() {
+        Some(mode) => mode,
+        None => Mode::Code,
+    }
+}
+
+pub(crate) fn in_text(mode: Mode) -> bool
+    ensures { result ≡ spec.in_text mode }
+{
+    match mode {
+        Mode::Inside(_, _) => true,
+        _ => false,
+    }
+}
+
+pub(crate) fn is_joined(state: State) -> bool
+    ensures { result ≡ spec.is_joined state }
+{
+    match state.mode {
+        Mode::Code => state.opened != state.closed,
+        _ => true,
+    }
 }

@@ -38,38 +38,162 @@ fn cut(alloc: Global, text: &str) -> Result<String, Fail> {
 }
 
 #[test]
-fn cuts_texts(rt: HostRuntime) -> Result<(), Fail> {
+fn cuts_lines_and_fields(rt: HostRuntime) -> Result<(), Fail> {
     for (text, want) in [
         (
-            "x = 1\n",
-            "0-1 Identifier(\"x\")\n2-3 Equal\n4-5 Int(I32(1))\n5-6 Newline\n6-6 Newline\n",
+            "if x:\n  y\nz",
+            "0-2 If\n3-4 Identifier(\"x\")\n4-5 Colon\n5-6 Newline\n6-8 Indent\n8-9 Identifier(\"y\")\n9-10 Newline\n10-10 Dedent\n10-11 Identifier(\"z\")\n11-11 Newline\n",
         ),
         (
-            "f(1,\n2)\n",
-            "0-1 Identifier(\"f\")\n1-2 OpeningRound\n2-3 Int(I32(1))\n3-4 Comma\n5-6 Int(I32(2))\n6-7 ClosingRound\n7-8 Newline\n8-8 Newline\n",
+            "f\"a{x!r}b\"",
+            "0-2 FStringStart(Double)\n2-3 FStringText(\"a\")\n3-4 FStringExprStart\n4-5 Identifier(\"x\")\n5-6 FStringBang\n6-7 Identifier(\"r\")\n7-8 FStringExprEnd\n8-9 FStringText(\"b\")\n9-10 FStringEnd\n10-10 Newline\n",
+        ),
+        (
+            "x = 0x1F\n",
+            "0-1 Identifier(\"x\")\n2-3 Equal\n4-8 Int(I32(31))\n8-9 Newline\n9-9 Newline\n",
+        ),
+        (
+            "if x:\n    y\n  z\n",
+            "0-2 If\n3-4 Identifier(\"x\")\n4-5 Colon\n5-6 Newline\n6-10 Indent\n10-11 Identifier(\"y\")\n11-12 Newline\n12-14 Indentation t\n",
         ),
         (
             "x)\ny",
             "0-1 Identifier(\"x\")\n1-2 ClosingRound\n3-4 Identifier(\"y\")\n4-4 Newline\n",
         ),
         (
-            "f(\n 1)\n",
-            "0-1 Identifier(\"f\")\n1-2 OpeningRound\n4-5 Int(I32(1))\n5-6 ClosingRound\n6-7 Newline\n7-7 Newline\n",
+            "x = \"abc\n",
+            "0-1 Identifier(\"x\")\n2-3 Equal\n4-8 UnfinishedStringLiteral t\n",
         ),
-        ("", "0-0 Newline\n"),
-        ("  \t", "3-3 Newline\n"),
-        (" \n x", "1-2 Newline\n2-3 Indentation t\n"),
-        ("\r x", "2-3 Identifier(\"x\")\n3-3 Newline\n"),
-        ("_1A", "0-3 Identifier(\"_1A\")\n3-3 Newline\n"),
-        ("0", "0-1 Int(I32(0))\n1-1 Newline\n"),
-        ("999999999", "0-9 Int(I32(999999999))\n9-9 Newline\n"),
-        ("1234567890", "0-10 InvalidInput t\n"),
-        ("01", "0-2 InvalidInput t\n"),
-        ("class", "0-5 InvalidInput t\n"),
-        ("x load", "0-1 Identifier(\"x\")\n2-6 InvalidInput t\n"),
+        ("\tx\n", "0-0 InvalidTab t\n"),
+        (
+            "f\"{x",
+            "0-2 FStringStart(Double)\n2-3 FStringExprStart\n3-4 Identifier(\"x\")\n4-4 Newline\n",
+        ),
+        (
+            "# a\r\n# b\nx # c\r\n",
+            "0-3 Comment(\" a\")\n5-8 Comment(\" b\")\n9-10 Identifier(\"x\")\n11-14 Comment(\" c\")\n15-16 Newline\n16-16 Newline\n",
+        ),
+        (
+            "x\n \ty",
+            "0-1 Identifier(\"x\")\n1-2 Newline\n1-2 InvalidTab t\n",
+        ),
+        (
+            "x \\\n y \\\r\n z",
+            "0-1 Identifier(\"x\")\n5-6 Identifier(\"y\")\n11-12 Identifier(\"z\")\n12-12 Newline\n",
+        ),
+        (
+            "a:\n b:\n  c\nd\n",
+            "0-1 Identifier(\"a\")\n1-2 Colon\n2-3 Newline\n3-4 Indent\n4-5 Identifier(\"b\")\n5-6 Colon\n6-7 Newline\n7-9 Indent\n9-10 Identifier(\"c\")\n10-11 Newline\n11-11 Dedent\n11-11 Dedent\n11-12 Identifier(\"d\")\n12-13 Newline\n13-13 Newline\n",
+        ),
+        (
+            "a\n b",
+            "0-1 Identifier(\"a\")\n1-2 Newline\n2-3 Indent\n3-4 Identifier(\"b\")\n4-4 Newline\n4-4 Dedent\n",
+        ),
+        (
+            "f'{ {1:2}[(3)] }'",
+            "0-2 FStringStart(Single)\n2-3 FStringExprStart\n4-5 OpeningCurly\n5-6 Int(I32(1))\n6-7 Colon\n7-8 Int(I32(2))\n8-9 ClosingCurly\n9-10 OpeningSquare\n10-11 OpeningRound\n11-12 Int(I32(3))\n12-13 ClosingRound\n13-14 ClosingSquare\n15-16 FStringExprEnd\n16-17 FStringEnd\n17-17 Newline\n",
+        ),
+        (
+            "fr\"\"\"{f'{x}'}\"\"\"",
+            "0-5 FStringStart(TripleDouble)\n5-6 FStringExprStart\n6-8 FStringStart(Single)\n8-9 FStringExprStart\n9-10 Identifier(\"x\")\n10-11 FStringExprEnd\n11-12 FStringEnd\n12-13 FStringExprEnd\n13-16 FStringEnd\n16-16 Newline\n",
+        ),
+        (
+            "f\"{)(!}\"",
+            "0-2 FStringStart(Double)\n2-3 FStringExprStart\n3-4 ClosingRound\n4-5 OpeningRound\n5-6 InvalidInput t\n",
+        ),
+        (
+            "f\"{a!=b}\"",
+            "0-2 FStringStart(Double)\n2-3 FStringExprStart\n3-4 Identifier(\"a\")\n4-6 BangEqual\n6-7 Identifier(\"b\")\n7-8 FStringExprEnd\n8-9 FStringEnd\n9-9 Newline\n",
+        ),
+        (
+            "f\"{{a}}}\"",
+            "0-2 FStringStart(Double)\n2-8 FStringText(\"{a}}\")\n8-9 FStringEnd\n9-9 Newline\n",
+        ),
+        (
+            "f\"a\\q\"",
+            "0-2 FStringStart(Double)\n3-5 InvalidEscapeSequence t\n",
+        ),
+        (
+            "f\"{x}a\n\"",
+            "0-2 FStringStart(Double)\n2-3 FStringExprStart\n3-4 Identifier(\"x\")\n4-5 FStringExprEnd\n0-6 UnfinishedStringLiteral t\n",
+        ),
+        (
+            "f\"{[\n1]}\"",
+            "0-2 FStringStart(Double)\n2-3 FStringExprStart\n3-4 OpeningSquare\n5-6 Int(I32(1))\n6-7 ClosingSquare\n7-8 FStringExprEnd\n8-9 FStringEnd\n9-9 Newline\n",
+        ),
+    ] {
+        assert_eq!(rt; cut(rt.alloc(), text)?.as_str(), want, "{text:?}");
+    }
+    Ok(())
+}
+
+#[test]
+fn cuts_literals(rt: HostRuntime) -> Result<(), Fail> {
+    for (text, want) in [
+        ("\"\\x41\\u00e9\"", "0-12 String(\"Aé\")\n12-12 Newline\n"),
+        ("b\"\\xff\\777\"", "6-8 InvalidEscapeSequence t\n"),
+        ("\"a\\qb\"", "2-4 InvalidEscapeSequence t\n"),
+        ("rb'\\n'", "0-6 Bytes([92, 110])\n6-6 Newline\n"),
+        (
+            "'''a\n\"b'''",
+            "0-10 String(\"a\\n\\\"b\")\n10-10 Newline\n",
+        ),
+        (
+            "\"\"x",
+            "0-2 String(\"\")\n2-3 Identifier(\"x\")\n3-3 Newline\n",
+        ),
+        ("\"a\r\n\"", "0-3 UnfinishedStringLiteral t\n"),
+        ("b\"é\"", "0-5 Bytes([195, 169])\n5-5 Newline\n"),
+        ("\"\\q", "1-3 InvalidEscapeSequence t\n"),
+        ("\"\\", "0-2 UnfinishedStringLiteral t\n"),
+        (
+            "rf x",
+            "0-2 Identifier(\"rf\")\n3-4 Identifier(\"x\")\n4-4 Newline\n",
+        ),
+    ] {
+        assert_eq!(rt; cut(rt.alloc(), text)?.as_str(), want, "{text:?}");
+    }
+    Ok(())
+}
+
+#[test]
+fn cuts_numbers_and_words(rt: HostRuntime) -> Result<(), Fail> {
+    for (text, want) in [
+        ("01", "0-2 StartsZero t\n"),
+        ("class", "0-5 ReservedKeyword t\n"),
         ("$", "0-1 InvalidInput t\n"),
+        ("iffy if", "0-4 Identifier(\"iffy\")\n5-7 If\n7-7 Newline\n"),
+        (
+            "1. 1.5e3 .5E-1 1e5 0.",
+            "0-2 Float(\"1.\")\n3-8 Float(\"1.5e3\")\n9-14 Float(\".5E-1\")\n15-18 Float(\"1e5\")\n19-21 Float(\"0.\")\n21-21 Newline\n",
+        ),
+        (
+            "1e 1e+",
+            "0-1 Int(I32(1))\n1-2 Identifier(\"e\")\n3-4 Int(I32(1))\n4-5 Identifier(\"e\")\n5-6 Plus\n6-6 Newline\n",
+        ),
+        (
+            "01.5 01e2",
+            "0-4 Float(\"01.5\")\n5-9 Float(\"01e2\")\n9-9 Newline\n",
+        ),
+        (
+            "0x 0b12 0o7",
+            "0-1 Int(I32(0))\n1-2 Identifier(\"x\")\n3-6 Int(I32(1))\n6-7 Int(I32(2))\n8-11 Int(I32(7))\n11-11 Newline\n",
+        ),
+        (
+            "2147483648",
+            "0-10 Int(BigInt { digits: \"2147483648\", negative: false, radix: 10 })\n10-10 Newline\n",
+        ),
+        (
+            "...<<=//=.",
+            "0-3 Ellipsis\n3-6 LessLessEqual\n6-9 SlashSlashEqual\n9-10 Dot\n10-10 Newline\n",
+        ),
+        (
+            "->!=**",
+            "0-2 MinusGreater\n2-4 BangEqual\n4-6 StarStar\n6-6 Newline\n",
+        ),
+        ("a\\b", "0-1 Identifier(\"a\")\n1-2 InvalidInput t\n"),
         ("é", "0-2 InvalidInput t\n"),
-        ("\tx", "0-1 Indentation t\n"),
+        ("True", "0-4 Identifier(\"True\")\n4-4 Newline\n"),
     ] {
         assert_eq!(rt; cut(rt.alloc(), text)?.as_str(), want, "{text:?}");
     }

@@ -15,23 +15,101 @@ pub enum TokenInt {
     },
 }
 
+/// The quotes of a literal.
+#[derive(Clone, Copy, Debug, PartialEq, Eq)]
+pub enum FStringQuote {
+    Single,
+    Double,
+    TripleSingle,
+    TripleDouble,
+}
+
+/// How a field of an f-string is printed.
+#[derive(Clone, Copy, Debug, PartialEq, Eq)]
+pub enum FStringConv {
+    None,
+    Str,
+    Repr,
+}
+
 /// A lexeme.
 #[derive(Debug, Drop, PartialEq, Eq)]
 pub enum Token {
-    /// The end of a line, or of the text.
     Newline,
-    /// A name.
+    Indent,
+    Dedent,
+    /// All behind the `#`.
+    Comment(String),
     Identifier(String),
-    /// An integer literal.
     Int(TokenInt),
-    /// `=`
-    Equal,
-    /// `(`
-    OpeningRound,
-    /// `)`
-    ClosingRound,
-    /// `,`
+    /// The text of a float literal.
+    Float(String),
+    String(String),
+    Bytes(Vec<u8>),
+    FStringStart(FStringQuote),
+    FStringText(String),
+    FStringExprStart,
+    FStringBang,
+    FStringExprEnd,
+    FStringEnd,
+    And,
+    Break,
+    Continue,
+    Def,
+    Elif,
+    Else,
+    For,
+    If,
+    In,
+    Lambda,
+    Load,
+    Not,
+    Or,
+    Pass,
+    Return,
     Comma,
+    Semicolon,
+    Colon,
+    Equal,
+    PlusEqual,
+    MinusEqual,
+    StarEqual,
+    SlashEqual,
+    SlashSlashEqual,
+    PercentEqual,
+    AmpersandEqual,
+    PipeEqual,
+    CaretEqual,
+    LessLessEqual,
+    GreaterGreaterEqual,
+    EqualEqual,
+    BangEqual,
+    LessThan,
+    GreaterThan,
+    LessEqual,
+    GreaterEqual,
+    Plus,
+    Minus,
+    Star,
+    StarStar,
+    Slash,
+    SlashSlash,
+    Percent,
+    Ampersand,
+    Pipe,
+    Caret,
+    LessLess,
+    GreaterGreater,
+    Tilde,
+    Dot,
+    Ellipsis,
+    MinusGreater,
+    OpeningRound,
+    ClosingRound,
+    OpeningSquare,
+    ClosingSquare,
+    OpeningCurly,
+    ClosingCurly,
 }
 
 /// Why a text is refused.

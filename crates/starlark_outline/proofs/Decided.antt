@@ -8,7 +8,7 @@ use Rattle.starlark_outline.specs.declared.parse.ParserError.TheVariants as kind
 use Rattle.starlark_outline.specs.Raw.{RawStmt}
 use Rattle.starlark_outline.specs.Marks.{Event, breaks, mark, Has, Late}
 use Rattle.starlark_outline.specs.Machine.{State, between, Accepts, Stuck, Verdict, Fine, Broken, Unexpected, step, met, note, finish, run, judge, next_lexeme, completion}
-use Rattle.starlark_outline.specs.Language.{IsViable, bare, IsDead, Ended, Breaks, IsStuck, IsWaiting, Language, Fault, fault, IsRefusal, by_lexer, at_token, at_end, by_rule, last_end}
+use Rattle.starlark_outline.specs.Language.{without_comments, IsViable, bare, IsDead, Ended, Breaks, IsStuck, IsWaiting, Language, Fault, fault, IsRefusal, by_lexer, at_token, at_end, by_rule, last_end}
 use Rattle.starlark_outline.proofs.Steps.{arrive, runs, runs_end, passes_on, stays_at}
 use Rattle.starlark_outline.proofs.Sound.{bottom, sound}
 use Rattle.starlark_outline.proofs.Complete.{marks_of, complete}
@@ -163,7 +163,7 @@ told (Fine raw) (Some s) n = Some (fault (kind.Lexer s.error) (extent s.begin s.
 told (Fine raw) None n = None
 
 abbrev pub told_of : Lexed → Option Fault
-told_of l = told (judge (run (between []) l.items)) l.fault (last_end 0 l.items)
+told_of l = told (judge (run (between []) (without_comments l.items))) l.fault (last_end 0 (without_comments l.items))
 
 waiting_told : (v : Verdict) (f : Option Stop) (s : Stop) (n : ℕ) → IsOpen v → f ≡ Some s → told v f n ≡ Some (fault (kind.Lexer s.error) (extent s.begin s.end))
 waiting_told v f s n o_stuck e = ap (λ z. told (Unexpected []) z n) e
@@ -171,10 +171,10 @@ waiting_told v f s n (o_fine {done}) e = ap (λ z. told (Fine done) z n) e
 
 -- a refusal is what is told
 pub refusal_told : {text : List ℕ} {f : Fault} → ((t : List ℕ) (a b : Lexed) → Lex start t a → Lex start t b → a ≡ b) → (l : Lexed) → Lex start text l → IsRefusal text f → told_of l ≡ Some f
-refusal_told {text} one l h (by_lexer {lexed} {s} x e w) = subst (λ z. told_of z ≡ Some (fault (kind.Lexer s.error) (extent s.begin s.end))) (one text lexed l x h) (waiting_told _ lexed.fault s (last_end 0 lexed.items) (waiting_is w) e)
-refusal_told {text} one l h (at_token {lexed} {w} {more} {x} y p k) = subst (λ z. told_of z ≡ Some (fault kind.Unexpected (extent x.begin x.end))) (one text lexed l y h) (ap (λ v. told v lexed.fault (last_end 0 lexed.items)) (ap (λ z. judge (run (between []) z)) (sym p) ∙ stuck_is k))
-refusal_told {text} one l h (at_end {lexed} y e k) = subst (λ z. told_of z ≡ Some (fault kind.UnexpectedEnd (extent (last_end 0 lexed.items) (last_end 0 lexed.items)))) (one text lexed l y h) (ap (λ v. told v lexed.fault (last_end 0 lexed.items)) (ap (λ z. judge (run (between []) z)) (sym (append-nil lexed.items)) ∙ stuck_is k) ∙ ap (λ z. told (Unexpected []) z (last_end 0 lexed.items)) e)
-refusal_told {text} one l h (by_rule {lexed} {w} {rest} {r} {s} y p b) = subst (λ z. told_of z ≡ Some (fault (kind.Rule r) s)) (one text lexed l y h) (ap (λ v. told v lexed.fault (last_end 0 lexed.items)) (ap (λ z. judge (run (between []) z)) (sym p) ∙ broken_is b))
+refusal_told {text} one l h (by_lexer {lexed} {s} x e w) = subst (λ z. told_of z ≡ Some (fault (kind.Lexer s.error) (extent s.begin s.end))) (one text lexed l x h) (waiting_told _ lexed.fault s (last_end 0 (without_comments lexed.items)) (waiting_is w) e)
+refusal_told {text} one l h (at_token {lexed} {w} {more} {x} y p k) = subst (λ z. told_of z ≡ Some (fault kind.Unexpected (extent x.begin x.end))) (one text lexed l y h) (ap (λ v. told v lexed.fault (last_end 0 (without_comments lexed.items))) (ap (λ z. judge (run (between []) z)) (sym p) ∙ stuck_is k))
+refusal_told {text} one l h (at_end {lexed} y e k) = subst (λ z. told_of z ≡ Some (fault kind.UnexpectedEnd (extent (last_end 0 (without_comments lexed.items)) (last_end 0 (without_comments lexed.items))))) (one text lexed l y h) (ap (λ v. told v lexed.fault (last_end 0 (without_comments lexed.items))) (ap (λ z. judge (run (between []) z)) (sym (append-nil (without_comments lexed.items))) ∙ stuck_is k) ∙ ap (λ z. told (Unexpected []) z (last_end 0 (without_comments lexed.items))) e)
+refusal_told {text} one l h (by_rule {lexed} {w} {rest} {r} {s} y p b) = subst (λ z. told_of z ≡ Some (fault (kind.Rule r) s)) (one text lexed l y h) (ap (λ v. told v lexed.fault (last_end 0 (without_comments lexed.items))) (ap (λ z. judge (run (between []) z)) (sym p) ∙ broken_is b))
 
 -- the lexer's reading of a text
 pub lexed_of : {text : List ℕ} {f : Fault} → IsRefusal text f → (l : Lexed) × Lex start text l
@@ -187,7 +187,7 @@ abbrev pub OneReading : Type 0
 OneReading = (t : List ℕ) (a b : Lexed) → Lex start t a → Lex start t b → a ≡ b
 
 pub one_tree : OneReading → (text : List ℕ) (a b : List RawStmt) → Language text a → Language text b → a ≡ b
-one_tree one text a b l m = same_trees a b (answered l.lexed.items a l.program) (ap (λ z. judge (run (between []) z.items)) (one text l.lexed m.lexed l.lexes m.lexes) ∙ answered m.lexed.items b m.program)
+one_tree one text a b l m = same_trees a b (answered (without_comments l.lexed.items) a l.program) (ap (λ z. judge (run (between []) (without_comments z.items))) (one text l.lexed m.lexed l.lexes m.lexes) ∙ answered (without_comments m.lexed.items) b m.program)
 
 pub one_refusal : OneReading → (text : List ℕ) (f g : Fault) → IsRefusal text f → IsRefusal text g → f ≡ g
 one_refusal one text f g x y =
@@ -197,5 +197,5 @@ one_refusal one text f g x y =
 
 pub not_both : OneReading → (text : List ℕ) (raw : List RawStmt) (f : Fault) → Language text raw → IsRefusal text f → ⊥
 not_both one text raw f l x =
-    let none : told_of l.lexed ≡ None = ap (λ v. told v l.lexed.fault (last_end 0 l.lexed.items)) (answered l.lexed.items raw l.program) ∙ ap (λ z. told (Fine raw) z (last_end 0 l.lexed.items)) l.no_fault in
+    let none : told_of l.lexed ≡ None = ap (λ v. told v l.lexed.fault (last_end 0 (without_comments l.lexed.items))) (answered (without_comments l.lexed.items) raw l.program) ∙ ap (λ z. told (Fine raw) z (last_end 0 (without_comments l.lexed.items))) l.no_fault in
     absurd (let n : None ≡ Some f = sym none ∙ refusal_told one l.lexed l.lexes x in (cc))

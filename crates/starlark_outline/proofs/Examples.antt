@@ -1,8 +1,7 @@
 -- The definitions of scripts at some literals.
-use Rattle.std.proofs.Common.{◌≡◌, List, [], ◌∷◌, ℕ, refl, Some, None}
+use Rattle.std.proofs.Common.{◌≡◌, [], refl, Some, None}
 use Rattle.std.specs.Prelude.{codes}
-use Rattle.starlark_outline.specs.Script.{front, nothing, no_command, asking, inserting, outlining, command_of, number_of}
-use Rattle.starlark_outline.specs.Printed.{refusal_line, item_line, outline_lines}
+use Rattle.starlark_outline.specs.Script.{front, nothing, no_command, asking, inserting, command_of, number_of}
 
 insert_with_bytes : front (codes "insert 0 6\nx = 1\noutline\n") ≡ asking (inserting 0 (codes "x = 1\n")) (codes "outline\n")
 unfolding front

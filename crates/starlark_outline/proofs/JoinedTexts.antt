@@ -2,30 +2,32 @@
 use Rattle.std.proofs.Common.{◌≡◌, ◌<◌, ◌≤◌, ℕ, ◌+◌, List, [], ◌∷◌, ◌++◌, length, map, take, cond, false, refl, ap, sym, ◌∙◌, arith, subst, append_assoc, nat_eq, inl, inr}
 use Rattle.std.specs.Prelude.{Option, Some, None, count_by}
 use Rattle.std.proofs.Math.Seq.{take-append-add}
-use Rattle.std.proofs.lemmas.Bool.{cases_Bool}
+use Rattle.std.proofs.lemmas.Bool.{cases_Bool, false≢true}
 use Rattle.std.proofs.lemmas.Bool.Decides.{nat_tests}
 use Rattle.std.proofs.lemmas.List.{map-append, take-append-le}
 use Rattle.std.proofs.lemmas.List.Sums.{sum_by-cons, sum_by-append}
 use Rattle.starlark_place.specs.Place.{is_feed, last_line, characters, line_at, column_at}
 use Rattle.starlark_place.specs.Resolved.{resolved}
 use Rattle.starlark_place.specs.declared.resolved.ResolvedPos.{ResolvedPos}
-use Rattle.starlark_lexer.specs.Items.{Item, Stop, Lexed, item, newline, with_items, opening_item, closing_item}
-use Rattle.starlark_lexer.specs.Joining.{IsClosed, IsJoined, lexed_on, stop_on}
+use Rattle.starlark_lexer.specs.Items.{Item, Stop, Lexed, item, newline, with_items}
+use Rattle.starlark_lexer.specs.Joining.{IsClosed, IsEven, IsJoined, item_on, lexed_on, stop_on, dedent_item}
 use Rattle.starlark_lexer.specs.Lex.{Lex, start, is_over}
 use Rattle.starlark_lexer.specs.Lex as lex
 use Rattle.starlark_lexer.specs.Order.{InOrder}
+use Rattle.starlark_lexer.specs.Widths.{Closes}
 use Rattle.starlark_lexer.specs.declared.dialect.Dialect.{Dialect}
 use Rattle.starlark_outline.specs.Raw.{RawStmt, expression, assign}
 use Rattle.starlark_outline.specs.Grammar.{line, nothing}
-use Rattle.starlark_outline.specs.Language.{Language, IsProgram}
+use Rattle.starlark_outline.specs.Language.{Language, IsProgram, without_comments}
 use Rattle.starlark_outline.specs.Joining.{stmt_on, stmts_on, feeds, item_down, items_down}
 use Rattle.starlark_outline.specs.Parts.{IsOutline, item_of, stands, word_of}
 use Rattle.starlark_outline.specs.declared.parts.OutlineItem.{OutlineItem}
+use Rattle.starlark_outline.proofs.Uncommented.{statements_simple, flat_items, without-append, without_on, ends_line, order_kept}
 use Rattle.starlark_outline.proofs.JoinedTrees.{balanced, joined, Within, AllBegin, all_begin}
 
 -- the laws of the lexer that these stand on
 abbrev pub JoinedTexts : Type 0
-JoinedTexts = (a b : List ℕ) (l m : Lexed) → Lex start a l → Lex start b m → l.fault ≡ None → IsClosed a → count_by opening_item l.items ≡ count_by closing_item l.items → IsJoined a b l m
+JoinedTexts = (a b : List ℕ) (l m : Lexed) → Lex start a l → Lex start b m → l.fault ≡ None → m.fault ≡ None → IsClosed a → IsEven l.items → count_by dedent_item l.items ≡ 0 → IsJoined a b l m
 
 abbrev pub Ordered : Type 0
 Ordered = (text : List ℕ) (l : Lexed) → Lex start text l → InOrder 0 (length text) l.items l.fault
@@ -35,12 +37,18 @@ Ordered = (text : List ℕ) (l : Lexed) → Lex start text l → InOrder 0 (leng
 pub joined_language : JoinedTexts → (a b : List ℕ) (ss ts : List RawStmt) → Language a ss → Language b ts → IsClosed a → Language (a ++ b) (ss ++ stmts_on (length a) ts)
 joined_language law a b ss ts h k closed =
     let n = length a in
-    let j = law a b h.lexed k.lexed h.lexes k.lexes h.no_fault closed (balanced h.lexed.items ss h.program.derives) in
+    let us = without_comments h.lexed.items in
+    let flat = flat_items h.lexed.items (statements_simple h.program.derives tt) (balanced us ss h.program.derives) in
+    let j = law a b h.lexed k.lexed h.lexes k.lexes h.no_fault k.no_fault closed flat.even flat.dedents in
+    let end = item n newline n in
+    let first : us ≡ without_comments j.items ++ end ∷ [] = ap without_comments j.first ∙ without-append j.items (end ∷ []) in
+    let both : without_comments (j.items ++ map (item_on n) k.lexed.items) ≡ without_comments j.items ++ map (item_on n) (without_comments k.lexed.items) =
+    without-append j.items (map (item_on n) k.lexed.items) ∙ ap (λ t. without_comments j.items ++ t) (without_on n k.lexed.items) in
     record {
       lexed = with_items j.items (lexed_on n k.lexed);
       lexes = j.both;
       no_fault = ap (stop_on n) k.no_fault;
-      program = joined n j.items k.lexed.items (item n newline n) ss ts (subst (λ u. IsProgram u ss) j.first h.program) j.line_end k.program;
+      program = subst (λ u. IsProgram u (ss ++ stmts_on n ts)) (sym both) (joined n (without_comments j.items) (without_comments k.lexed.items) end ss ts (subst (λ u. IsProgram u ss) first h.program) (ends_line j.items j.line_end) k.program);
     }
 
 -- ---- lines and columns
@@ -113,7 +121,7 @@ order_within i n [] f h = tt
 order_within i n (x ∷ xs) f h = (omega (arith, h.1, order_fits x.end n xs f h.2), order_within x.end n xs f h.2)
 
 pub language_begins : Ordered → (a : List ℕ) (ss : List RawStmt) → Language a ss → AllBegin (length a) ss
-language_begins law a ss h = all_begin (length a) h.program.derives (order_within 0 (length a) h.lexed.items h.lexed.fault (law a h.lexed h.lexes))
+language_begins law a ss h = all_begin (length a) h.program.derives (order_within 0 (length a) (without_comments h.lexed.items) h.lexed.fault (order_kept 0 (length a) h.lexed.items h.lexed.fault (law a h.lexed h.lexes)))
 
 pub joined_outline : JoinedTexts → Ordered → (dialect : Dialect) (a b : List ℕ) (xs ys : List OutlineItem) → IsOutline dialect a xs → IsOutline dialect b ys → IsClosed a → IsOutline dialect (a ++ b) (xs ++ items_down (feeds a) ys)
 joined_outline law order dialect a b xs ys h k closed =
@@ -123,6 +131,13 @@ joined_outline law order dialect a b xs ys h k closed =
     ∙ ap (λ t. xs ++ t) (items_behind a b k.raw closed ∙ ap (map (item_down (feeds a))) (sym k.all)) in
     record { raw = h.raw ++ stmts_on (length a) k.raw; language = joined_language law a b h.raw k.raw h.language k.language closed; all = sym all }
 
+-- no width is open where no line was measured
+no_widths : Closes [] 0 []
+no_widths = record {
+  once = λ k h. absurd (omega arith);
+  each = λ x. ((λ h. absurd (false≢true h)), (λ o. elim o.0 [ inl z ↦ absurd (omega (arith, z, o.1)) | inr k ↦ absurd (omega (arith, k.1)) ]));
+}
+
 -- the empty text has no statements
 pub empty_outline : (dialect : Dialect) → IsOutline dialect [] []
 empty_outline dialect =
@@ -131,7 +146,7 @@ empty_outline dialect =
       raw = [];
       language = record {
         lexed = all;
-        lexes = is_over start [] all (lex.last_line start [] refl refl);
+        lexes = is_over start [] all (lex.last_line start [] [] refl refl no_widths);
         no_fault = refl;
         program = record { derives = line nothing; clean = tt };
       };

@@ -5,12 +5,12 @@ use Rattle.std.proofs.lemmas.List.{map-append, append-nil}
 use Rattle.std.proofs.lemmas.List.Sums.{sum_by-cons}
 use Rattle.starlark_place.specs.Place.{extent}
 use Rattle.starlark_lexer.specs.Items.{Item, item, newline, identifier, integer, equal, opening_round, closing_round, comma, opening_item, closing_item}
-use Rattle.starlark_lexer.specs.Joining.{item_on, EndsLine}
+use Rattle.starlark_lexer.specs.Joining.{item_on}
 use Rattle.starlark_outline.specs.Raw.{Raw, Raws, ident, int, call, applied, none, more, place, RawStmt, expression, assign}
 use Rattle.starlark_outline.specs.Raw as raw
 use Rattle.starlark_outline.specs.Grammar.{Level, name, number, apply, above, Arguments, empty, some, trailing, Tests, one, next, Statement, evaluate, set, Statements, nothing, line, stmt, Derives}
 use Rattle.starlark_outline.specs.Marks.{Mark, invalid, marked, in_statement, in_statements, Clean, Event, breaks}
-use Rattle.starlark_outline.specs.Joining.{extent_on, raw_on, raws_on, stmt_on, stmts_on}
+use Rattle.starlark_outline.specs.Joining.{EndsLine, extent_on, raw_on, raws_on, stmt_on, stmts_on}
 use Rattle.starlark_outline.specs.Language.{IsProgram}
 use Rattle.starlark_outline.specs.Parts.{stands}
 
@@ -119,7 +119,7 @@ balanced u ss d = let h = statements_closes d in omega (arith, h.even)
 -- ---- what a derivation reads
 
 -- The tokens end in one that is no line end.
-abbrev Stays : List Item → Type 0
+abbrev pub Stays : List Item → Type 0
 Stays [] = ⊥
 Stays (x ∷ []) = x.lexeme ≡ newline → ⊥
 Stays (x ∷ y ∷ ys) = Stays (y ∷ ys)
@@ -202,18 +202,18 @@ mutual
       }
 
 -- a statement: what is read ends in a line end
-record ReadsLine (P : List Item → List Item → Type 0) (a b : List Item) : Type 0 where
-  word : List Item
-  i : ℕ
-  j : ℕ
-  whole : a ≡ word ++ item i newline j ∷ b
-  stays : Stays word
-  on : (c : List Item) → P (word ++ item i newline j ∷ c) c
+pub record ReadsLine (P : List Item → List Item → Type 0) (a b : List Item) : Type 0 where
+  pub word : List Item
+  pub i : ℕ
+  pub j : ℕ
+  pub whole : a ≡ word ++ item i newline j ∷ b
+  pub stays : Stays word
+  pub on : (c : List Item) → P (word ++ item i newline j ∷ c) c
 
 starts_same : (a b c w : List Item) → a ≡ w ++ b → Stays w → raw.start (w ++ c) ≡ raw.start a
 starts_same a b c w e h = start_same w b c h ∙ sym (ap raw.start e)
 
-statement_reads : {a b : List Item} {s : RawStmt} → Statement a b s → ReadsLine (λ x y. Statement x y s) a b
+pub statement_reads : {a b : List Item} {s : RawStmt} → Statement a b s → ReadsLine (λ x y. Statement x y s) a b
 statement_reads (evaluate {i} {j} {e} {a} {b} {r} d) =
     let v = level_reads d in
     let x : Item = item i newline j in

@@ -16,8 +16,11 @@ pub mod Refusals
 pub mod Exits
 pub mod Texts
 pub mod Decided
+pub mod Uncommented
 pub mod Places
 pub mod Held
 pub mod Keeping
 pub mod Closed
 pub mod EditLaws
+pub mod Ascending
+pub mod GrammarExamples

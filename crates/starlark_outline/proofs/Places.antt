@@ -31,10 +31,10 @@ last_line-more (x ∷ xs) b = elim (cases_Bool (is_feed b)) [
       ]
 ]
 
-line-more : (text : List ℕ) (i : ℕ) → i < length text → line_at text (i + 1) ≡ cond (is_feed (get_or text i 0)) (line_at text i + 1) (line_at text i)
+pub line-more : (text : List ℕ) (i : ℕ) → i < length text → line_at text (i + 1) ≡ cond (is_feed (get_or text i 0)) (line_at text i + 1) (line_at text i)
 line-more text i lt = ap (count_by is_feed) (take_more text i 0 lt) ∙ feeds-more (take i text) (get_or text i 0) ∙ elim (cases_Bool (is_feed (get_or text i 0))) [ inl e ↦ rw e refl | inr e ↦ rw e (omega arith) ]
 
-column-more : (text : List ℕ) (i : ℕ) → i < length text
+pub column-more : (text : List ℕ) (i : ℕ) → i < length text
     → column_at text (i + 1) ≡ cond (is_feed (get_or text i 0)) 0 (cond (not (is_continuation (get_or text i 0))) (column_at text i + 1) (column_at text i))
 column-more text i lt =
     let b : ℕ = get_or text i 0 in

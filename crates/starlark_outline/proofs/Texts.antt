@@ -11,15 +11,15 @@ use Rattle.starlark_outline.specs.declared.parse.ParseFault.{ParseFault}
 use Rattle.starlark_outline.specs.declared.parse.ParseFault.TheVariants.{Refused}
 use Rattle.starlark_outline.specs.Raw.{RawStmt}
 use Rattle.starlark_outline.specs.Machine.{between, run, judge, Fine, Unexpected, Broken}
-use Rattle.starlark_outline.specs.Language.{Language, IsStuck, last_end, fault, IsRefusal, by_lexer, at_token, at_end, by_rule}
-use Rattle.starlark_outline.specs.Reads.{Left, left_of, Sticks, Answers, Refuses, by_token, by_fault, by_end}
+use Rattle.starlark_outline.specs.Language.{without_comments, Language, IsStuck, last_end, fault, IsRefusal, by_lexer, at_token, at_end, by_rule}
+use Rattle.starlark_outline.specs.Reads.{Left, left_of, uncommented, Sticks, Answers, Refuses, by_token, by_fault, by_end}
 use Rattle.starlark_outline.proofs.Refusals.{StuckAt, broken, refused, program, answered, waits, waits_fine}
 
 -- the tokens are those of the text
 pub record IsRead (text : List ℕ) (ts : Left) : Type 0 where
   pub lexed : Lexed
   pub lexes : Lex start text lexed
-  pub whole : ts ≡ left_of 0 lexed
+  pub whole : ts ≡ left_of 0 (uncommented lexed)
 
 -- what is taken is in the language
 pub taken : {text : List ℕ} {ts : Left} (us : Left) {raw : List RawStmt} → IsRead text ts → judge (run (between []) ts.items) ≡ Fine raw → us.items ≡ [] → us.fault ≡ ts.fault → (us.items ≡ [] → us.fault ≡ None) → Language text raw
@@ -27,7 +27,7 @@ taken us {raw} h e i f g = record {
   lexed = h.lexed;
   lexes = h.lexes;
   no_fault = sym (ap (λ z. z.fault) h.whole) ∙ sym f ∙ g i;
-  program = program h.lexed.items raw (ap (λ z. judge (run (between []) z.items)) (sym h.whole) ∙ e);
+  program = program (without_comments h.lexed.items) raw (ap (λ z. judge (run (between []) z.items)) (sym h.whole) ∙ e);
 }
 
 -- what is in the language is taken
@@ -39,7 +39,7 @@ pub takes : {text : List ℕ} {ts : Left} {raw : List RawStmt} → ((t : List �
 takes {text} {ts} {raw} one h l =
     let q : l.lexed ≡ h.lexed = one text l.lexed h.lexed l.lexes h.lexes in
     record {
-      fine = ap (λ z. judge (run (between []) z.items)) (h.whole ∙ ap (left_of 0) (sym q)) ∙ answered l.lexed.items raw l.program;
+      fine = ap (λ z. judge (run (between []) z.items)) (h.whole ∙ ap (λ z. left_of 0 (uncommented z)) (sym q)) ∙ answered (without_comments l.lexed.items) raw l.program;
       no_fault = ap (λ z. z.fault) h.whole ∙ sym (ap (λ z. z.fault) q) ∙ l.no_fault;
     }
 
@@ -51,27 +51,27 @@ named {text} {a} {b} {s} {z} e h = let p : (a ≡ b) × (z ≡ s) = (cc, cc) in 
 pub refuses_stuck : {text : List ℕ} {ts us : Left} {f : ParseFault} {error : ParserError} {s : Extent} → IsRead text ts → Sticks (between []) ts us → Refuses us f → f ≡ Refused error s → IsRefusal text (fault error (extent s.begin s.end))
 refuses_stuck {text} {ts} {us} {f} {error} {s} h k r e = go f r e
   where
-    items : ts.items ≡ h.lexed.items
+    items : ts.items ≡ (without_comments h.lexed.items)
     items = ap (λ z. z.items) h.whole
 
-    stuck : StuckAt h.lexed.items us.items
-    stuck = refused h.lexed.items us.items (ap (λ xs. judge (run (between []) xs)) (sym items) ∙ k.same)
+    stuck : StuckAt (without_comments h.lexed.items) us.items
+    stuck = refused (without_comments h.lexed.items) us.items (ap (λ xs. judge (run (between []) xs)) (sym items) ∙ k.same)
 
     behind : us.fault ≡ h.lexed.fault
     behind = k.behind.fault ∙ ap (λ z. z.fault) h.whole
 
-    last : us.items ≡ [] → us.last ≡ last_end 0 h.lexed.items
+    last : us.items ≡ [] → us.last ≡ last_end 0 (without_comments h.lexed.items)
     last i = sym (ap (last_end us.last) i) ∙ k.behind.last ∙ ap (λ z. last_end z.last z.items) h.whole
 
-    wait : us.items ≡ [] → judge (run (between []) h.lexed.items) ≡ Unexpected []
+    wait : us.items ≡ [] → judge (run (between []) (without_comments h.lexed.items)) ≡ Unexpected []
     wait i = ap (λ xs. judge (run (between []) xs)) (sym items) ∙ k.same ∙ ap Unexpected i
 
     go : (f : ParseFault) → Refuses us f → f ≡ Refused error s → IsRefusal text (fault error (extent s.begin s.end))
-    go f (by_token x xs z i q) e = named e (subst (λ y. IsRefusal text (fault kind.Unexpected y)) (sym q) (at_token h.lexes (subst (λ ys. stuck.before ++ ys ≡ h.lexed.items) i stuck.parts) (subst (IsStuck stuck.before) i stuck.stuck)))
-    go f (by_fault t z i g q) e = named e (subst (λ y. IsRefusal text (fault (kind.Lexer t.error) y)) (sym q) (by_lexer h.lexes (sym behind ∙ g) (waits h.lexed.items (wait i))))
+    go f (by_token x xs z i q) e = named e (subst (λ y. IsRefusal text (fault kind.Unexpected y)) (sym q) (at_token h.lexes (subst (λ ys. stuck.before ++ ys ≡ (without_comments h.lexed.items)) i stuck.parts) (subst (IsStuck stuck.before) i stuck.stuck)))
+    go f (by_fault t z i g q) e = named e (subst (λ y. IsRefusal text (fault (kind.Lexer t.error) y)) (sym q) (by_lexer h.lexes (sym behind ∙ g) (waits (without_comments h.lexed.items) (wait i))))
     go f (by_end z i g q) e =
-        let w : StuckAt h.lexed.items [] = refused h.lexed.items [] (wait i) in
-        let whole : w.before ≡ h.lexed.items = sym (append-nil w.before) ∙ w.parts in
+        let w : StuckAt (without_comments h.lexed.items) [] = refused (without_comments h.lexed.items) [] (wait i) in
+        let whole : w.before ≡ (without_comments h.lexed.items) = sym (append-nil w.before) ∙ w.parts in
         named e (subst (λ y. IsRefusal text (fault kind.UnexpectedEnd y)) (sym (q ∙ ap (λ n. extent n n) (last i))) (at_end h.lexes (sym behind ∙ g) (subst (λ ys. IsStuck ys []) whole w.stuck)))
 
 pub refuses_fault : {text : List ℕ} {ts us : Left} {raw : List RawStmt} {f : ParseFault} {error : ParserError} {s : Extent} → IsRead text ts → judge (run (between []) ts.items) ≡ Fine raw → us.items ≡ [] → us.fault ≡ ts.fault → us.fault ≢ None → Refuses us f → f ≡ Refused error s → IsRefusal text (fault error (extent s.begin s.end))
@@ -82,10 +82,10 @@ refuses_fault {text} {ts} {us} {raw} {f} {error} {s} h e i g n r q = go f r q
 
     go : (f : ParseFault) → Refuses us f → f ≡ Refused error s → IsRefusal text (fault error (extent s.begin s.end))
     go f (by_token x xs z j w) q = absurd (let m : ◌≡◌ {A = List Item} [] (x ∷ xs) = sym i ∙ j in (cc))
-    go f (by_fault t z j m w) q = named q (subst (λ y. IsRefusal text (fault (kind.Lexer t.error) y)) (sym w) (by_lexer h.lexes (sym behind ∙ m) (waits_fine h.lexed.items raw (ap (λ y. judge (run (between []) y.items)) (sym h.whole) ∙ e))))
+    go f (by_fault t z j m w) q = named q (subst (λ y. IsRefusal text (fault (kind.Lexer t.error) y)) (sym w) (by_lexer h.lexes (sym behind ∙ m) (waits_fine (without_comments h.lexed.items) raw (ap (λ y. judge (run (between []) y.items)) (sym h.whole) ∙ e))))
     go f (by_end z j m w) q = absurd (n m)
 
 pub refuses_rule : {text : List ℕ} {ts : Left} {rule : Rule} {s : Extent} {n : ℕ} → IsRead text ts → Answers (between []) ts (Broken rule (extent s.begin s.end) n) → IsRefusal text (fault (kind.Rule rule) (extent s.begin s.end))
 refuses_rule {text} {ts} {rule} {s} {n} h a =
-    let b = broken h.lexed.items rule (extent s.begin s.end) n (ap (λ z. judge (run (between []) z.items)) (sym h.whole) ∙ a.same) in
+    let b = broken (without_comments h.lexed.items) rule (extent s.begin s.end) n (ap (λ z. judge (run (between []) z.items)) (sym h.whole) ∙ a.same) in
     by_rule h.lexes b.parts b.breaks_rule

@@ -1,8 +1,15 @@
 -- The trees and the outline of a text behind another.
-use Rattle.std.specs.Prelude.{ℕ, ◌+◌, List, map, count_by}
+use Rattle.std.specs.Prelude.{◌≡◌, ℕ, ◌+◌, List, [], ◌∷◌, map, count_by}
 use Rattle.starlark_place.specs.Place.{Extent, extent, is_feed}
+use Rattle.starlark_lexer.specs.Items.{Item, newline}
 use Rattle.starlark_outline.specs.Raw.{Raw, Raws, ident, int, call, none, more, RawStmt, expression, assign}
 use Rattle.starlark_outline.specs.declared.parts.OutlineItem.{OutlineItem}
+
+-- no tokens, or tokens of which the last one is a line end
+abbrev pub EndsLine : List Item → Type 0
+EndsLine [] = Unit {0}
+EndsLine (x ∷ []) = x.lexeme ≡ newline
+EndsLine (x ∷ y ∷ ys) = EndsLine (y ∷ ys)
 
 -- a place n bytes on
 abbrev pub extent_on : ℕ → Extent → Extent

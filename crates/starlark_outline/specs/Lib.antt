@@ -16,3 +16,4 @@ pub mod Engine
 pub mod Held
 pub mod Holding
 pub mod Cursor
+pub mod Ascending

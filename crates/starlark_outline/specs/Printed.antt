@@ -1,5 +1,5 @@
 -- What replies are made of. Lines and columns are printed from 1.
-use Rattle.std.specs.Prelude.{ℕ, Result, Ok, Err, List, [], ◌++◌, codes, decimal, length}
+use Rattle.std.specs.Prelude.{ℕ, Result, Ok, Err, List, ◌++◌, codes, decimal, length}
 use Rattle.std.specs.List.{flat_map}
 use Rattle.starlark_place.specs.Shown.{shown_pos, shown_span}
 use Rattle.starlark_outline.specs.Parts.{word_text}

@@ -13,7 +13,7 @@ use Rattle.starlark_outline.specs.declared.tokens.Symbol.{Symbol}
 use Rattle.starlark_outline.specs.declared.tokens.Symbol.TheVariants as symbol
 use Rattle.starlark_outline.specs.declared.tokens.Ahead.{Ahead}
 use Rattle.starlark_outline.specs.declared.tokens.Ahead.TheVariants as ahead
-use Rattle.starlark_outline.specs.Language.{last_end}
+use Rattle.starlark_outline.specs.Language.{last_end, without_comments}
 use Rattle.starlark_outline.specs.Machine.{State, Verdict, run, judge}
 use Rattle.starlark_outline.specs.Machine as m
 
@@ -28,6 +28,10 @@ abbrev pub with_ahead : Ahead → Lexed → Lexed
 with_ahead (ahead.Token i x j) l = with_item i (lexeme_of x) j l
 with_ahead ahead.End l = nothing
 with_ahead (ahead.Fault e s) l = with_fault s.begin e s.end
+
+-- the same without comments
+abbrev pub uncommented : Lexed → Lexed
+uncommented l = record { items = without_comments l.items; fault = l.fault }
 
 abbrev pub left_of : ℕ → Lexed → Left
 left_of n l = record { last = n; items = l.items; fault = l.fault }

@@ -6,6 +6,7 @@ ghost use Rattle.starlark_lexer.specs.Joining.{IsClosed};
 ghost use Rattle.starlark_lexer.specs.declared.dialect.Dialect.{Dialect};
 ghost use Rattle.starlark_outline.specs.Raw.{RawStmt};
 ghost use Rattle.starlark_outline.specs.Language.{Language};
+ghost use Rattle.starlark_outline.specs.Ascending.{IsAscending};
 ghost use Rattle.starlark_outline.specs.Joining.{feeds, items_down, stmts_on};
 ghost use Rattle.starlark_outline.specs.Kept.{joined};
 ghost use Rattle.starlark_outline.specs.Parts.{IsOutline, Refuses, Takes};
@@ -14,7 +15,7 @@ ghost use Rattle.std.specs.List.{insert, remove};
 ghost use Rattle.starlark_outline.specs.declared.parts.OutlineItem.{OutlineItem};
 
 use crate::grammar_laws::{one_refusal, one_tree};
-use starlark_lexer::laws::{in_order, joined_texts};
+use starlark_lexer::laws::{firm_items, in_order, joined_texts};
 
 /// A closed text and a text behind it, one behind the other, have the statements of both: those of
 /// the first where they stand, and those of the second by the length of the first later.
@@ -63,3 +64,12 @@ pub fn taken_or_refused()
 pub fn inserted_then_removed()
     ensures { (texts : List (List ℕ)) (k : ℕ) (text : List ℕ) → k ≤ length texts → remove (insert texts k text) k ≡ texts }
 {}
+
+/// Of two statements of an outline the earlier begins on an earlier line, or in an earlier column
+/// of the same line.
+pub fn earlier_is_before()
+    ensures { (dialect : Dialect) (text : List ℕ) (xs : List OutlineItem) → IsOutline dialect text xs → IsAscending xs }
+{
+    in_order();
+    firm_items();
+}

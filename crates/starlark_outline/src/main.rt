@@ -14,6 +14,8 @@ mod fault;
 pub mod grammar_laws;
 pub mod laws;
 mod parse;
+#[cfg(test)]
+mod parse_tests;
 mod part;
 mod parts;
 mod reading;

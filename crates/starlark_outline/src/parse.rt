@@ -255,14 +255,21 @@ fn statements(alloc: Global, tokens: &mut Tokens<'_>) -> Result<Vec<AstStmt>, Er
     Ok(found)
 }
 
-/// The statements that the text of the map spells.
+/// The statements of the map's text, each with its place in bytes from 0.
+///
+/// A text that is no program is refused for the first reason that holds from the left, with its place: a rule that is
+/// broken goes before the token or the fault that waits behind it. Nothing is asked of the lexer behind its first fault.
+/// `Memory` is answered where memory, or one more owner of the map, cannot be had.
 pub fn parse(
     alloc: Global,
     codemap: &CodeMap,
     dialect: &Dialect,
 ) -> Result<Vec<AstStmt>, ParseFault>
+    // What is taken is in the language, with those trees.
     ensures sound { IfOk result (λ found. Language codemap.now.source (map stmt_view found.items)) }
+    // What is in the language is taken, with those trees, unless memory runs out.
     ensures complete { (raw : List RawStmt) → Language codemap.now.source raw → (result ≡ Err ParseFault.Memory) ⊎ ((found : Vec AstStmt Global) × (result ≡ Ok found) × (map stmt_view found.items ≡ raw)) }
+    // What is refused is refused for that reason, at that place.
     ensures refused { (error : ParserError) (s : Extent) → result ≡ Err (ParseFault.Refused error s) → IsRefusal codemap.now.source (fault error (extent s.begin s.end)) }
 {
     one_reading();

@@ -254,3 +254,58 @@ impl Parts {
         self.outline.as_slice()
     }
 }
+
+#[cfg(test)]
+mod tests {
+    use super::*;
+
+    fn refusal(kind: FaultKind, begin: (usize, usize), end: (usize, usize)) -> PartFault {
+        PartFault::Parse(
+            kind,
+            ResolvedSpan {
+                begin: ResolvedPos {
+                    line: begin.0,
+                    column: begin.1,
+                },
+                end: ResolvedPos {
+                    line: end.0,
+                    column: end.1,
+                },
+            },
+        )
+    }
+
+    #[test]
+    fn keeps_parts(rt: HostRuntime) {
+        let mut parts = Parts::with_limit(rt.alloc(), &Dialect::Standard, 20);
+        assert!(rt; parts.insert(0, b"b(\n1)\n\n") == Ok(()));
+        assert!(rt; parts.insert(0, b"\ra = 1\n") == Ok(()));
+        assert!(rt; parts.insert(2, b"c\n") == Ok(()));
+        let taken: [(u64, &[u8], PartFault); 9] = [
+            (4, b"x\n", PartFault::Index),
+            (3, b"\xff\n", PartFault::Utf8),
+            (3, b"c()\n", PartFault::Long),
+            (3, b"$ =", refusal(FaultKind::Lexer, (0, 0), (0, 1))),
+            (3, b"f(\n", refusal(FaultKind::Syntax, (1, 0), (1, 0))),
+            (3, b"1=2", refusal(FaultKind::Rule, (0, 0), (0, 1))),
+            (3, b"c", PartFault::Open),
+            (3, b"", PartFault::Open),
+            (3, b"\n\\\n", PartFault::Open),
+        ];
+        for (index, text, fault) in taken {
+            assert!(rt; parts.insert(index, text) == Err(fault));
+        }
+        assert_eq!(rt; parts.len(), 3);
+        assert!(rt; parts.part(1) == Some("b(\n1)\n\n") && parts.part(3).is_none());
+        let begins = [
+            (Word::Assign, 0, 1),
+            (Word::Expression, 1, 0),
+            (Word::Expression, 4, 0),
+        ];
+        let outline = parts.outline();
+        assert_eq!(rt; outline.len(), begins.len());
+        for (item, (word, line, column)) in outline.iter().zip(begins) {
+            assert!(rt; item.word == word && item.begin == ResolvedPos { line, column });
+        }
+    }
+}

@@ -5,7 +5,8 @@ ghost use Rattle.std.specs.Bool.{MatchBool};
 ghost use Rattle.starlark_lexer.specs.Items.{Item, Stop, item, lexeme_of};
 ghost use Rattle.starlark_outline.specs.Raw.{start};
 ghost use Rattle.starlark_outline.specs.Machine.{next_lexeme, Starts};
-ghost use Rattle.starlark_outline.specs.Reads.{left_of, with_ahead, lexeme_of_symbol, Passes, Refuses};
+ghost use Rattle.starlark_outline.specs.Language.{is_comment};
+ghost use Rattle.starlark_outline.specs.Reads.{left_of, uncommented, with_ahead, lexeme_of_symbol, Passes, Refuses};
 
 use crate::parse::{ParseFault, ParserError};
 use crate::tree::Extent;
@@ -34,7 +35,7 @@ enum Ahead {
     Fault(LexemeError, Extent),
 }
 
-/// The tokens that are still to be read. A clause sees them, the fault behind them, and where the last one ends that was read.
+/// The tokens that are still to be read, comments left out. A clause sees them, the fault behind them, and where the last one ends that was read.
 #[derive(Drop)]
 pub(crate) struct Tokens<'a> {
     lexer: Lexer<'a>,
@@ -43,32 +44,48 @@ pub(crate) struct Tokens<'a> {
 }
 
 impl<'a> Model for Tokens<'a> {
-    ghost use Rattle.starlark_outline.specs.Reads.{Left, left_of, with_ahead};
+    ghost use Rattle.starlark_outline.specs.Reads.{Left, left_of, uncommented, with_ahead};
 
     ghost Value = { Left };
 
-    ghost view = { λ a. left_of a.last (with_ahead a.ahead a.lexer.left) };
+    ghost view = { λ a. left_of a.last (with_ahead a.ahead (uncommented a.lexer.left)) };
 }
 
-// what the lexer gives next
-fn fetch(lexer: &mut Lexer) -> Result<Ahead, AllocError>
-    ensures { IfOk result (λ a. lexer.old.left ≡ with_ahead a lexer.new.left) }
+// whether the token is a comment
+fn is_comment(token: &Token) -> bool
+    ensures { result ≡ is_comment (lexeme_of token.now) }
 {
-    match lexer.next() {
-        None => Ok(Ahead::End),
-        Some(Ok((begin, token, end))) => Ok(Ahead::Token(begin, token, end)),
-        Some(Err(Refusal::Memory)) => Err(AllocError),
-        Some(Err(Refusal::Fault(fault))) => {
-            let Some(place) = fault.span() else {
-                unreachable!();
-            };
-            let place = Extent {
-                begin: place.span.begin().get() as usize,
-                end: place.span.end().get() as usize,
-            };
-            Ok(Ahead::Fault(*fault.inner(), place))
+    match token {
+        Token::Comment(_) => true,
+        _ => false,
+    }
+}
+
+// what the lexer gives next that is no comment
+fn fetch(lexer: &mut Lexer) -> Result<Ahead, AllocError>
+    ensures { IfOk result (λ a. uncommented lexer.old.left ≡ with_ahead a (uncommented lexer.new.left)) }
+{
+    while let Some(answer) = lexer.next() {
+        match answer {
+            Ok((begin, token, end)) => {
+                if !is_comment(&token) {
+                    return Ok(Ahead::Token(begin, token, end));
+                }
+            }
+            Err(Refusal::Memory) => return Err(AllocError),
+            Err(Refusal::Fault(fault)) => {
+                let Some(place) = fault.span() else {
+                    unreachable!();
+                };
+                let place = Extent {
+                    begin: place.span.begin().get() as usize,
+                    end: place.span.end().get() as usize,
+                };
+                return Ok(Ahead::Fault(*fault.inner(), place));
+            }
         }
     }
+    Ok(Ahead::End)
 }
 
 // whether the token is that symbol
@@ -87,7 +104,7 @@ fn is_symbol(token: &Token, want: Symbol) -> bool
 impl<'a> Tokens<'a> {
     /// All that the lexer has left.
     pub(crate) fn new(mut lexer: Lexer<'a>) -> Result<Tokens<'a>, AllocError>
-        ensures { IfOk result (λ t. t ≡ left_of 0 lexer.entry.left) }
+        ensures { IfOk result (λ t. t ≡ left_of 0 (uncommented lexer.entry.left)) }
     {
         let ahead = fetch(&mut lexer)?;
         Ok(Tokens {

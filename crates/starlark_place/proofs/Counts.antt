@@ -1,12 +1,10 @@
 -- Counts of bytes and of characters.
-use Rattle.std.proofs.Common.{◌≡◌, ◌≤◌, ℕ, ◌+◌, ◌-◌, ◌%◌, ◌/◌, Bool, true, false, not, cond, List, [], ◌∷◌, length, take, drop, refl, ap, sym, ◌∙◌, arith, inl, inr, leb, ltb, map, replicate, ◌^◌, w8}
+use Rattle.std.proofs.Common.{◌≡◌, ◌<◌, ◌≤◌, ℕ, ◌+◌, ◌-◌, ◌%◌, ◌/◌, Bool, true, false, not, cond, List, [], ◌∷◌, length, take, drop, refl, ap, sym, ◌∙◌, arith, inl, inr, ltb, map, replicate}
 use Rattle.std.specs.List.{count_by}
 use Rattle.std.specs.Str.{IsUtf8, chars}
 use lib.Utf8.{encode, encodes, next}
-use lib.Count.{ones}
-use lib.Lanes.{chunk, zip2, mask_l, top}
-use Rattle.std.proofs.lemmas.Simd.{tops_compared, mask_l-mod, ones-mask_l}
-use Rattle.std.proofs.lemmas.List.{take-append-drop, length-map, take_rest}
+use lib.Lanes.{chunk, zip2, Each1}
+use Rattle.std.proofs.lemmas.List.{take-append-drop, take_rest}
 use Rattle.std.proofs.lemmas.Bool.{cases_Bool, cases_lt}
 use Rattle.std.proofs.lemmas.Bool.Decides.{nat_tests}
 use Rattle.std.proofs.lemmas.List.Sums.{sum_by-cons, sum_by-append}
@@ -21,32 +19,29 @@ count_by-chunk p text at n = ap (count_by p) (take-add at n text) ∙ sum_by-app
 pub count_by-rest : (p : ℕ → Bool) (text : List ℕ) (at : ℕ) → count_by p text ≡ count_by p (take at text) + count_by p (take (length text - at) (drop at text))
 count_by-rest p text at = rw (take_rest text at) (ap (count_by p) (sym (take-append-drop at text)) ∙ sum_by-append (λ x. cond (p x) 1 0) (take at text) (drop at text))
 
-weight : (x : ℕ) → cond (ltb x 128) 1 0 + cond (leb 192 x) 1 0 ≡ cond (not (is_continuation x)) 1 0
-weight x =
+splat_right : (f : ℕ → ℕ → ℕ) (y : ℕ) (xs : List ℕ) → zip2 f xs (replicate (length xs) y) ≡ map (λ x. f x y) xs
+splat_right f y [] = refl
+splat_right f y (x ∷ xs) = ap (λ rest. f x y ∷ rest) (splat_right f y xs)
+
+turned : (x : ℕ) → x < 256 → cond {A = ℕ} (ltb ((x + 64) % 256) 192) 1 0 ≡ cond {A = ℕ} (not (is_continuation x)) 1 0
+turned x small =
     elim (cases_lt x 128) [
-      | inl l ↦ (let a : ltb x 128 ≡ true = grind (arith, nat_tests) in let b : leb 192 x ≡ false = grind (arith, nat_tests) in let n : is_continuation x ≡ false = grind (arith, nat_tests) in rw (a, b, n) refl)
+      | inl l ↦ (let m : (x + 64) % 256 ≡ x + 64 = omega arith in let a : ltb ((x + 64) % 256) 192 ≡ true = grind (arith, nat_tests) in let n : is_continuation x ≡ false = grind (arith, nat_tests) in rw (a, n) refl)
       | inr g ↦ elim (cases_lt x 192) [
-        | inl l ↦ (let a : ltb x 128 ≡ false = grind (arith, nat_tests) in let b : leb 192 x ≡ false = grind (arith, nat_tests) in let n : is_continuation x ≡ true = grind (arith, nat_tests) in rw (a, b, n) refl)
-        | inr h ↦ (let a : ltb x 128 ≡ false = grind (arith, nat_tests) in let b : leb 192 x ≡ true = grind (arith, nat_tests) in let n : is_continuation x ≡ false = grind (arith, nat_tests) in rw (a, b, n) refl)
+        | inl l ↦ (let m : (x + 64) % 256 ≡ x + 64 = omega arith in let a : ltb ((x + 64) % 256) 192 ≡ false = grind (arith, nat_tests) in let n : is_continuation x ≡ true = grind (arith, nat_tests) in rw (a, n) refl)
+        | inr h ↦ (let m : (x + 64) % 256 ≡ x - 192 = omega arith in let a : ltb ((x + 64) % 256) 192 ≡ true = grind (arith, nat_tests) in let n : is_continuation x ≡ false = grind (arith, nat_tests) in rw (a, n) refl)
       ]
     ]
 
--- a byte is below 128, from 192 on, or goes on
-pub characters-split : (xs : List ℕ) → count_by (λ x. ltb x 128) xs + count_by (λ x. leb 192 x) xs ≡ characters xs
-characters-split [] = refl
-characters-split (x ∷ xs) =
-    rw (sum_by-cons (λ y. cond (ltb y 128) 1 0) x xs, sum_by-cons (λ y. cond (leb 192 y) 1 0) x xs, sum_by-cons (λ y. cond (not (is_continuation y)) 1 0) x xs)
-    (let h = characters-split xs in let w = weight x in omega arith)
+-- the bytes that stay below 192 when 64 is added, in 8 bits
+pub characters-turned : (xs : List ℕ) → Each1 (λ x. x < 256) xs → count_by (λ x. ltb x 192) (map (λ x. (x + 64) % 256) xs) ≡ characters xs
+characters-turned [] h = refl
+characters-turned (x ∷ xs) h =
+    rw (sum_by-cons (λ y. cond (ltb y 192) 1 0) ((x + 64) % 256) (map (λ y. (y + 64) % 256) xs), sum_by-cons (λ y. cond (not (is_continuation y)) 1 0) x xs)
+    (let t = characters-turned xs h.1 in let w = turned x h.0 in omega arith)
 
-splat : (f : ℕ → ℕ → Bool) (y : ℕ) (xs : List ℕ) → zip2 f (replicate (length xs) y) xs ≡ map (f y) xs
-splat f y [] = refl
-splat f y (x ∷ xs) = ap (λ rest. f y x ∷ rest) (splat f y xs)
-
--- the lanes from 192 on
-pub ones_from : (block : List ℕ) → length block ≡ 32 → ones (mask_l (map (top 7) (zip2 (λ a b. cond (leb a b) 255 0) (replicate 32 192) block)) % 2 ^ 64) ≡ count_by (λ x. leb 192 x) block
-ones_from block long =
-    ap ones (ap (λ ms. mask_l ms % 2 ^ 64) (tops_compared w8 leb (replicate 32 192) block ∙ ap (λ m. zip2 leb (replicate m 192) block) (sym long) ∙ splat leb 192 block) ∙ mask_l-mod (map (leb 192) block) 64 (omega (arith, length-map block (leb 192))))
-    ∙ ones-mask_l (leb 192) block
+pub turned_lanes : (block : List ℕ) → length block ≡ 32 → zip2 (λ a b. (a + b) % 256) block (replicate 32 64) ≡ map (λ x. (x + 64) % 256) block
+turned_lanes block long = ap (λ n. zip2 (λ a b. (a + b) % 256) block (replicate n 64)) (sym long) ∙ splat_right (λ a b. (a + b) % 256) 64 block
 
 lead : (a : ℕ) → 192 ≤ a → is_continuation a ≡ false
 lead a h = grind (arith, nat_tests)

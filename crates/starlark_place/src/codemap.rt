@@ -18,6 +18,7 @@ use std::alloc::{AllocError, AllocFailed, Global};
 use std::hash::{Hash, Hasher};
 use std::marker::Model;
 use std::rc::Rc;
+use thiserror::Error;
 
 /// What tells one map from another. The caller keeps them apart.
 #[derive(Clone, Copy, Debug, PartialEq, Eq, PartialOrd, Ord, Hash)]
@@ -29,11 +30,13 @@ impl CodeMapId {
 }
 
 /// Why a source gets no map.
-#[derive(Clone, Copy, Debug, PartialEq, Eq)]
+#[derive(Clone, Copy, Debug, PartialEq, Eq, Error)]
 pub enum CodeMapError {
     /// It has more than `u32::MAX` bytes.
+    #[error("the source is too long")]
     TooLong,
     /// Memory ran out.
+    #[error("out of memory")]
     Memory,
 }
 
@@ -293,7 +296,7 @@ impl PartialEq for CodeMap {
 
     /// Whether the ids are equal.
     fn eq(&self, other: &CodeMap) -> bool {
-        self.data.id.0 == other.data.id.0
+        self.id() == other.id()
     }
 }
 
@@ -308,7 +311,7 @@ impl Hash for CodeMap {
 
     /// Feeds the id.
     fn hash<H: Hasher>(&self, state: &mut H) {
-        self.data.id.0.hash(state);
+        self.id().hash(state);
     }
 }
 

@@ -40,8 +40,11 @@ fn block_chars(block: u8x32) -> u32
     requires { length block ≡ 32 }
     ensures { result ≡ characters block }
 {
-    block.simd_lt(u8x32::splat(128)).to_bitmask().count_ones()
-        + block.simd_ge(u8x32::splat(192)).to_bitmask().count_ones()
+    // a byte from 128 to 191 is one from 192 to 255 after the sum, which wraps
+    (block + u8x32::splat(64))
+        .simd_lt(u8x32::splat(192))
+        .to_bitmask()
+        .count_ones()
 }
 
 fn block_bytes(block: u8x32, byte: u8) -> u32

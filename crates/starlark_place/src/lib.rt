@@ -3,7 +3,7 @@
 
 pub mod codemap;
 pub mod codemaps;
-mod count;
+pub mod count;
 pub mod cursor;
 pub mod diagnostic;
 pub mod fast_string;
@@ -11,3 +11,5 @@ pub mod file_span;
 pub mod laws;
 pub mod pos;
 pub mod resolved;
+#[cfg(test)]
+mod tests;

@@ -72,7 +72,7 @@ impl AddAssign<u32> for Pos {
 
     /// Moves on by `bytes` bytes, which fits.
     fn add_assign(&mut self, bytes: u32) {
-        self.0 += bytes;
+        *self = *self + bytes;
     }
 }
 
@@ -158,14 +158,14 @@ impl Span {
     pub fn contains(self, pos: Pos) -> bool
         ensures { IsTrue result ↔ (self.begin ≤ pos) × (pos ≤ self.end) }
     {
-        self.begin <= pos && pos <= self.end
+        pos >= self.begin && pos <= self.end
     }
 
     /// Whether each begins at or before the other's end.
     pub fn intersects(self, span: Span) -> bool
         ensures { IsTrue result ↔ (self.begin ≤ span.end) × (span.begin ≤ self.end) }
     {
-        self.begin <= span.end && span.begin <= self.end
+        span.begin <= self.end && self.begin <= span.end
     }
 }
 

@@ -1,15 +1,23 @@
-use Rattle.std.proofs.Common.{refl, arith}
-use Rattle.starlark_lexer.proofs.Hands.{gap_left, gap_stands, gap_within}
+use Rattle.std.proofs.Common.{◌≡◌, refl}
+use Rattle.starlark_lexer.specs.declared.parts.Parts.{Parts}
+use Rattle.starlark_lexer.proofs.Sounds.{mode_sound}
+use Rattle.starlark_lexer.proofs.Hands.{gap_left, gap_stands, gap_bound}
 use Rattle.starlark_lexer.proofs.parts.pass_over.Goals as goal
-
-pub returns-clause-same : goal.returns-clause-same
-returns-clause-same c = gap_left c.args.parts.now c.gap-gap.result _ _ c.requires.within refl c.as_bytes-bytes.ensures.value c.gap-gap.ensures.value c.gap-gap.new.reads c.requires.going
-
-pub returns-clause-stands : goal.returns-clause-stands
-returns-clause-stands c = gap_stands c.args.parts.now c.gap-gap.result _ _ c.requires.within refl c.as_bytes-bytes.ensures.value c.gap-gap.ensures.value c.gap-gap.new.reads
 
 pub returns-clause-whole : goal.returns-clause-whole
 returns-clause-whole c =
-    let w = c.requires.whole in
-    let cut = gap_within c.args.parts.now c.gap-gap.result _ _ c.requires.within refl c.as_bytes-bytes.ensures.value c.gap-gap.ensures.value w c.as_bytes-bytes.ensures.utf8 in
-    record { within = cut.0; opened = omega (arith, w.opened); closed = omega (arith, w.closed); boundary = cut }
+    let a = c.args.parts.now in
+    let bound = gap_bound a c.gap-gap.result _ _ c.requires.within c.requires.among c.is_joined-joined.ensures c.as_bytes-bytes.ensures.value c.gap-gap.ensures.value c.requires.whole c.as_bytes-bytes.ensures.utf8 in
+    mode_sound a.text.now a.state a.outer.items a.margin c.requires.whole c.gap-gap.result a.state.mode a.state.mode bound c.requires.whole.mode refl c.turned-parts.result c.turned-parts.ensures
+
+pub returns-clause-same : goal.returns-clause-same
+returns-clause-same c =
+    let a = c.args.parts.now in
+    let b : Parts = record a { state = c.turned-parts.result; reads = c.gap-gap.new.reads } in
+    gap_left a c.gap-gap.result _ _ c.requires.within c.requires.among c.is_joined-joined.ensures c.as_bytes-bytes.ensures.value c.gap-gap.ensures.value b refl refl refl c.turned-parts.ensures c.requires.ready (record { none = c.requires.ready.none; more = c.requires.ready.more })
+
+pub returns-clause-stands : goal.returns-clause-stands
+returns-clause-stands c =
+    let a = c.args.parts.now in
+    let b : Parts = record a { state = c.turned-parts.result; reads = c.gap-gap.new.reads } in
+    gap_stands a c.gap-gap.result _ _ c.requires.within c.requires.among c.is_joined-joined.ensures c.as_bytes-bytes.ensures.value c.gap-gap.ensures.value b refl c.turned-parts.ensures

@@ -3,7 +3,7 @@ use Rattle.starlark_lexer.specs.Scan.{gap}
 use Rattle.starlark_lexer.proofs.scan.gap.Given as goal
 
 abbrev pub invariant-loop-joined : goal.invariant-loop-joined
-invariant-loop-joined l = (l.end + gap l.joined 0 (drop l.end l.bytes) ≡ gap l.joined 0 l.bytes) × ((l.end ≤ length l.bytes) × (l.reads ≤ l.initial.reads + 3 * l.end))
+invariant-loop-joined l = (l.end + gap l.joined 0 (drop l.end l.bytes) ≡ gap l.joined 0 l.bytes) × (l.end ≤ length l.bytes)
 
 abbrev pub decreases-loop-joined : goal.decreases-loop-joined
 decreases-loop-joined l = length l.bytes - l.end

@@ -5,7 +5,7 @@ use Rattle.starlark_lexer.proofs.scan.run.Given as goal
 
 abbrev pub invariant-loop-end : goal.invariant-loop-end
 invariant-loop-end l =
-    (l.end + prefix_len (is_in l.class) (drop l.end l.bytes) ≡ prefix_len (is_in l.class) l.bytes) × ((l.end ≤ length l.bytes) × (l.reads ≤ l.initial.reads + l.end))
+    (l.end + prefix_len (is_in l.class) (drop l.end l.bytes) ≡ prefix_len (is_in l.class) l.bytes) × (l.end ≤ length l.bytes)
 
 abbrev pub decreases-loop-end : goal.decreases-loop-end
 decreases-loop-end l = length l.bytes - l.end

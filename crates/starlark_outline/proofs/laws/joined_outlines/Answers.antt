@@ -5,4 +5,4 @@ pub returns-clause-none : goal.returns-clause-none
 returns-clause-none c = empty_outline
 
 pub returns-clause-both : goal.returns-clause-both
-returns-clause-both c = joined_outline c.joined_texts.ensures c.in_order.ensures.order
+returns-clause-both c = joined_outline c.joined_texts.ensures.flat c.in_order.ensures.order

@@ -1,20 +1,29 @@
 use Rattle.std.proofs.Common.{◌≡◌, ℕ, List, Result, Vec, Err, inr, refl, ap, sym, subst, ◌∙◌}
 use Rattle.std.specs.Global.{Global}
-use Rattle.starlark_lexer.specs.Items.{Lexed}
+use Rattle.starlark_place.specs.Place.{Extent as Place}
+use Rattle.starlark_lexer.specs.Items.{Item, Lexed}
+use Rattle.starlark_outline.specs.Raw.{RawStmt}
 use Rattle.starlark_lexer.specs.Lex.{Lex, start}
 use Rattle.starlark_outline.specs.declared.tree.AstStmt.{AstStmt}
+use Rattle.starlark_outline.specs.declared.parse.Rule.{Rule}
 use Rattle.starlark_outline.specs.declared.parse.ParseFault.{ParseFault}
 use Rattle.starlark_outline.specs.Machine.{Fine, Unexpected, Broken}
-use Rattle.starlark_outline.specs.Reads.{Left, left_of}
+use Rattle.starlark_outline.specs.Reads.{Left, left_of, uncommented}
 use Rattle.starlark_outline.proofs.Refusals.{same_trees}
 use Rattle.starlark_outline.proofs.Texts.{IsRead, named, taken, takes, refuses_stuck, refuses_fault, refuses_rule}
 use Rattle.starlark_outline.proofs.parse.parse.Goals as goal
 
-read : (text input : List ℕ) (l : Lexed) (ts : Left) → input ≡ text → Lex start input l → ts ≡ left_of 0 l → IsRead text ts
+read : (text input : List ℕ) (l : Lexed) (ts : Left) → input ≡ text → Lex start input l → ts ≡ left_of 0 (uncommented l) → IsRead text ts
 read text input l ts e h w = record { lexed = l; lexes = subst (λ t. Lex start t l) e h; whole = w }
 
 same_fault : (a b : ParseFault) → ◌≡◌ {A = Result (Vec AstStmt Global) ParseFault} (Err a) (Err b) → a ≡ b
 same_fault a b e = cc
+
+not_stuck : {P : Type 0} (raw : List RawStmt) (rest : List Item) → Fine raw ≡ Unexpected rest → P
+not_stuck raw rest e = absurd (let n : Fine raw ≡ Unexpected rest = e in (cc))
+
+not_broken : {P : Type 0} (raw : List RawStmt) (r : Rule) (s : Place) (n : ℕ) → Fine raw ≡ Broken r s n → P
+not_broken raw r s n e = absurd (let m : Fine raw ≡ Broken r s n = e in (cc))
 
 pub returns-in-Ok-clause-sound : goal.returns-in-Ok-clause-sound
 returns-in-Ok-clause-sound c =
@@ -42,7 +51,7 @@ pub returns-in-Err-Unexpected-clause-complete : goal.returns-in-Err-Unexpected-c
 returns-in-Err-Unexpected-clause-complete c raw l =
     let h = read c.args.codemap.now.source _ _ _ c.source.ensures.is c.new-lexer.ensures.left c.in_ok-tokens.ensures in
     let k = c.in-Err-Unexpected.ensures.stuck (ap Err c.in-Err-Unexpected.field-0-is) in
-    absurd (let n : Fine raw ≡ Unexpected _ = sym (takes c.one_reading.ensures h l).fine ∙ k.same in (cc))
+    not_stuck raw _ (sym (takes c.one_reading.ensures h l).fine ∙ k.same)
 
 pub returns-in-Err-Unexpected-clause-refused : goal.returns-in-Err-Unexpected-clause-refused
 returns-in-Err-Unexpected-clause-refused c error s e =
@@ -54,7 +63,7 @@ pub returns-in-Err-Broken-clause-complete : goal.returns-in-Err-Broken-clause-co
 returns-in-Err-Broken-clause-complete c raw l =
     let h = read c.args.codemap.now.source _ _ _ c.source.ensures.is c.new-lexer.ensures.left c.in_ok-tokens.ensures in
     let a = c.in-Err-Broken.ensures.breaks _ _ (ap Err c.in-Err-Broken.field-0-is) in
-    absurd (let n : Fine raw ≡ Broken _ _ _ = sym (takes c.one_reading.ensures h l).fine ∙ a.same in (cc))
+    not_broken raw _ _ _ (sym (takes c.one_reading.ensures h l).fine ∙ a.same)
 
 pub returns-in-Err-Broken-clause-refused : goal.returns-in-Err-Broken-clause-refused
 returns-in-Err-Broken-clause-refused c error s e =

@@ -1,0 +1,10 @@
+use Rattle.std.proofs.Common.{◌≡◌, ◌+◌, ◌-◌, ◌≤◌, length, drop}
+use Rattle.std.specs.List.{prefix_len}
+use Rattle.starlark_lexer.specs.Classes.{is_blank}
+use Rattle.starlark_lexer.proofs.identifier.blanks.Given as goal
+
+abbrev pub invariant-loop-end : goal.invariant-loop-end
+invariant-loop-end l = (l.end + prefix_len is_blank (drop l.end l.bytes) ≡ prefix_len is_blank l.bytes) × (l.end ≤ length l.bytes)
+
+abbrev pub decreases-loop-end : goal.decreases-loop-end
+decreases-loop-end l = length l.bytes - l.end

@@ -1,0 +1,72 @@
+-- The prefix and quotes at the front of a text, as the code finds them.
+use Rattle.std.specs.Prelude.{ℕ, ◌+◌, Bool, not, ◌||◌, ◌&&◌, if◌then◌else◌, ◌==◌, ◌≤◌, List, [], ◌∷◌, length, take, drop, Option, Some, None}
+use Rattle.std.specs.Char.{encode_utf8}
+use Rattle.std.specs.Str.{IsCharBoundary}
+use Rattle.starlark_lexer.specs.declared.literal.Ending.{Ending}
+use Rattle.starlark_lexer.specs.declared.literal.Ending.TheVariants as ending
+use Rattle.starlark_lexer.specs.declared.literal.Form.{Form}
+use Rattle.starlark_lexer.specs.declared.literal.Piece.{Piece}
+use Rattle.starlark_lexer.specs.declared.literal.Piece.TheVariants.{Closing, Field, Stop, Wrong, Nothing, Char, Byte, Same}
+use Rattle.starlark_lexer.specs.declared.literal.Sort.{Sort}
+use Rattle.starlark_lexer.specs.declared.token.FStringQuote.{FStringQuote}
+use Rattle.starlark_lexer.specs.declared.token.FStringQuote.TheVariants.{Single, Double, TripleSingle, TripleDouble}
+use Rattle.starlark_lexer.specs.Literals.{prefix_of, letters, begins, quotes}
+
+-- the longest quotes at the front
+abbrev pub quote_front : List ℕ → Option FStringQuote
+quote_front [] = None
+quote_front (a ∷ w) =
+    if a == 39 then (if begins 39 w && begins 39 (drop 1 w) then Some TripleSingle else Some Single)
+    else (if a == 34 then (if begins 34 w && begins 34 (drop 1 w) then Some TripleDouble else Some Double) else None)
+
+abbrev pub front_of : Option (Sort × Bool) → Option FStringQuote → ℕ → Option (Form × ℕ)
+front_of (Some p) (Some q) n = Some (record { sort = p.0; raw = p.1; quote = q }, n + quotes q)
+front_of (Some p) None n = None
+front_of None q n = None
+
+-- the longest prefix and quotes at the front, and how many bytes they have: no prefix has three letters
+unfoldable pub opening_front : List ℕ → Option (Form × ℕ)
+opening_front w =
+    front_of (prefix_of (take (letters (take 3 w)) w)) (quote_front (drop (letters (take 3 w)) w)) (letters (take 3 w))
+
+-- a byte that is an item of any body by itself
+abbrev pub is_plain : ℕ → Bool
+is_plain b = not (b == 10 || b == 13 || b == 34 || b == 39 || b == 92 || b == 123 || b == 125)
+
+-- where a piece that ends a body ends it, i bytes on
+abbrev pub ending_at : ℕ → Piece → Option Ending
+ending_at i Closing = Some (ending.Closed i)
+ending_at i Field = Some (ending.Field i)
+ending_at i Stop = Some (ending.Unfinished i)
+ending_at i (Wrong m) = Some (ending.Escape i m)
+ending_at i (Nothing n) = None
+ending_at i (Char c n) = None
+ending_at i (Byte b n) = None
+ending_at i (Same n) = None
+
+-- how many bytes a piece has that ends none
+abbrev pub width : Piece → ℕ
+width (Nothing n) = n
+width (Char c n) = n
+width (Byte b n) = n
+width (Same n) = n
+width _ = 0
+
+-- what a piece denotes that ends none, with the text that it stands at the front of
+abbrev pub denoted : Piece → List ℕ → List ℕ
+denoted (Char c n) rest = encode_utf8 c
+denoted (Byte b n) rest = b ∷ []
+denoted (Same n) rest = take n rest
+denoted _ rest = []
+
+-- it denotes text
+abbrev pub IsText : Piece → List ℕ → Type 0
+IsText (Same n) rest = IsCharBoundary rest n
+IsText (Byte b n) rest = ⊥
+IsText _ rest = Unit {0}
+
+-- it denotes bytes
+abbrev pub IsBytes : Piece → List ℕ → Type 0
+IsBytes (Same n) rest = n ≤ length rest
+IsBytes (Char c n) rest = ⊥
+IsBytes _ rest = Unit {0}

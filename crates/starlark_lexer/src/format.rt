@@ -1,0 +1,388 @@
+//! Cuts a format string into texts, captures and escaped braces.
+
+ghost use Rattle.std.specs.Prelude.{◌≡◌, ◌≤◌, ◌<◌, ◌^◌, ◌+◌, ◌++◌, Some, length, drop, take};
+ghost use Rattle.std.specs.List.{prefix_len};
+ghost use Rattle.starlark_lexer.specs.Format as spec;
+ghost use Rattle.starlark_lexer.specs.Format.{Gives, error_text};
+
+use std::error::Error;
+use std::fmt;
+use std::marker::Model;
+
+/// How the value of a capture is printed.
+#[derive(Clone, Copy, Debug, PartialEq, Eq)]
+pub enum FormatConv {
+    Str,
+    Repr,
+}
+
+/// An escaped brace.
+#[derive(Clone, Copy, Debug, PartialEq, Eq)]
+pub enum EscapeCurlyBrace {
+    Open,
+    Close,
+}
+
+impl EscapeCurlyBrace {
+    /// The one brace that it stands for.
+    pub fn as_str(self) -> &'static str
+        ensures { result.now ≡ spec.one_brace self }
+    {
+        match self {
+            EscapeCurlyBrace::Open => "{",
+            EscapeCurlyBrace::Close => "}",
+        }
+    }
+
+    /// The two braces that it is written as.
+    pub fn back_to_escape(self) -> &'static str
+        ensures { result.now ≡ spec.one_brace self ++ spec.one_brace self }
+    {
+        match self {
+            EscapeCurlyBrace::Open => "{{",
+            EscapeCurlyBrace::Close => "}}",
+        }
+    }
+}
+
+/// A piece of a format string.
+#[derive(Clone, Copy, Debug, PartialEq, Eq)]
+pub enum FormatToken<'a> {
+    /// The longest run of text without braces.
+    Text(&'a str),
+    /// What stands between two braces.
+    Capture {
+        /// All before the first `!`.
+        capture: &'a str,
+        /// Where the name begins, in bytes from the beginning of the format string.
+        pos: usize,
+        /// `Repr` behind `!r`, else `Str`.
+        conv: FormatConv,
+    },
+    /// Two braces of one kind.
+    Escape(EscapeCurlyBrace),
+}
+
+/// What is wrong with a format string.
+#[derive(Clone, Copy, Debug, PartialEq, Eq)]
+pub enum FormatErrorKind {
+    /// A closing brace by itself.
+    Standalone,
+    /// A capture that meets an opening brace or the end.
+    Unmatched,
+    /// Something other than `s` or `r` behind a `!`.
+    Conversion,
+}
+
+/// Why a format string is refused.
+#[derive(Clone, Copy, Debug, PartialEq, Eq)]
+pub struct FormatError<'a> {
+    pub kind: FormatErrorKind,
+    /// The whole format string.
+    pub text: &'a str,
+}
+
+fn kind_text(kind: FormatErrorKind) -> &'static str
+    ensures { result.now ≡ spec.kind_text kind }
+{
+    match kind {
+        FormatErrorKind::Standalone => "Standalone '}'",
+        FormatErrorKind::Unmatched => "Unmatched '{'",
+        FormatErrorKind::Conversion => "Unknown conversion",
+    }
+}
+
+impl<'a> fmt::Display for FormatError<'a> {
+    ghost output = { λ e. Some (error_text e) };
+
+    fn fmt<W: fmt::Write>(&self, f: &mut fmt::Formatter<W>) -> fmt::Result {
+        let kind = kind_text(self.kind);
+        let text = self.text;
+        write!(f, "{kind} in format string `{text}`")
+    }
+}
+
+impl<'a> Error for FormatError<'a> {}
+
+/// What stands at a place of a format string.
+#[derive(Clone, Copy, Debug)]
+pub(crate) enum Turn {
+    Over,
+    /// So many bytes.
+    Text(usize),
+    Escape(EscapeCurlyBrace),
+    /// The length of the name, the conversion, and the length with both braces.
+    Capture(usize, FormatConv, usize),
+    Fault(FormatErrorKind),
+}
+
+/// How many bytes stand before the first brace.
+fn plain(bytes: &[u8]) -> usize
+    ensures value { result ≡ spec.plain bytes.now }
+    ensures within { result ≤ length bytes.now }
+{
+    let mut end = 0;
+    while end < bytes.len() && !(bytes[end] == b'{' || bytes[end] == b'}') {
+        end += 1;
+    }
+    end
+}
+
+fn name_len(bytes: &[u8]) -> usize
+    ensures value { result ≡ spec.name_len bytes.now }
+    ensures within { result ≤ length bytes.now }
+{
+    let mut end = 0;
+    while end < bytes.len() && bytes[end] != b'!' {
+        end += 1;
+    }
+    end
+}
+
+fn conversion(bytes: &[u8]) -> Option<FormatConv>
+    ensures { result ≡ spec.conversion bytes.now }
+{
+    match bytes {
+        [] => Some(FormatConv::Str),
+        [_, b's'] => Some(FormatConv::Str),
+        [_, b'r'] => Some(FormatConv::Repr),
+        _ => None,
+    }
+}
+
+/// A capture with that between its braces.
+fn named(inside: &[u8]) -> Turn
+    requires { length inside.now + 2 < 2 ^ 64 }
+    ensures { result ≡ spec.named inside.now }
+{
+    let len = name_len(inside);
+    match conversion(&inside[len..]) {
+        Some(conv) => Turn::Capture(len, conv, inside.len() + 2),
+        None => Turn::Fault(FormatErrorKind::Conversion),
+    }
+}
+
+/// What an opening brace begins, by what stands behind it.
+fn opens(rest: &[u8]) -> Turn
+    requires { length rest.now + 2 < 2 ^ 64 }
+    ensures { result ≡ spec.opens rest.now }
+{
+    let len = plain(rest);
+    if len < rest.len() && rest[len] == b'}' {
+        named(&rest[..len])
+    } else {
+        Turn::Fault(FormatErrorKind::Unmatched)
+    }
+}
+
+#[tactic(auto, unfolding(crate::specs::Format::turn))]
+fn next_turn(bytes: &[u8]) -> Turn
+    ensures { result ≡ spec.turn bytes.now }
+{
+    if bytes.is_empty() {
+        return Turn::Over;
+    }
+    let doubled = bytes.len() > 1 && bytes[1] == bytes[0];
+    match bytes[0] {
+        b'{' if doubled => Turn::Escape(EscapeCurlyBrace::Open),
+        b'{' => opens(&bytes[1..]),
+        b'}' if doubled => Turn::Escape(EscapeCurlyBrace::Close),
+        b'}' => Turn::Fault(FormatErrorKind::Standalone),
+        _ => Turn::Text(plain(bytes)),
+    }
+}
+
+/// Hands out the pieces of a format string. A clause sees those that are left, and the string.
+#[derive(Drop)]
+pub struct FormatParser<'a> {
+    text: &'a str,
+    rest: &'a str,
+}
+
+impl<'a> Model for FormatParser<'a> {
+    ghost use Rattle.starlark_lexer.specs.Format.{Format};
+    ghost use Rattle.starlark_lexer.specs.FormatModel.{view_of, IsParser};
+
+    ghost Value = { Format };
+
+    ghost view = { view_of };
+
+    ghost invariant = { IsParser };
+}
+
+impl<'a> FormatParser<'a> {
+    /// It takes no memory.
+    pub fn new(s: &'a str) -> FormatParser<'a>
+        ensures left { result.left ≡ spec.parsed 0 0 s.now }
+        ensures text { result.text ≡ s.now }
+    {
+        FormatParser { text: s, rest: s }
+    }
+
+    /// The next piece, or `None` at the end. After an error it gives the same error again.
+    ///
+    /// It takes no memory.
+    pub fn next(&mut self) -> Result<Option<FormatToken<'a>>, FormatError<'a>>
+        ensures { Gives self.old result self.new }
+    {
+        let rest = self.rest;
+        match next_turn(rest.as_bytes()) {
+            Turn::Over => Ok(None),
+            Turn::Text(len) => {
+                self.rest = &rest[len..];
+                Ok(Some(FormatToken::Text(&rest[..len])))
+            }
+            Turn::Escape(brace) => {
+                self.rest = &rest[2..];
+                Ok(Some(FormatToken::Escape(brace)))
+            }
+            Turn::Capture(name, conv, len) => {
+                let pos = self.text.len() - rest.len() + 1;
+                self.rest = &rest[len..];
+                Ok(Some(FormatToken::Capture {
+                    capture: &rest[1..1 + name],
+                    pos,
+                    conv,
+                }))
+            }
+            Turn::Fault(kind) => Err(FormatError {
+                kind,
+                text: self.text,
+            }),
+        }
+    }
+}
+
+#[cfg(test)]
+mod tests {
+    use super::*;
+    use std::test::Fail;
+
+    fn capture(capture: &str, pos: usize, conv: FormatConv) -> FormatToken<'_> {
+        FormatToken::Capture { capture, pos, conv }
+    }
+
+    #[test]
+    fn tokens(rt: HostRuntime) -> Result<(), Fail> {
+        let open = FormatToken::Escape(EscapeCurlyBrace::Open);
+        let close = FormatToken::Escape(EscapeCurlyBrace::Close);
+        let none: [FormatToken; 0] = [];
+        let row = [
+            FormatToken::Text("a"),
+            capture("b", 2, FormatConv::Repr),
+            close,
+        ];
+        let escapes = [
+            open,
+            close,
+            FormatToken::Text("é"),
+            open,
+            close,
+            FormatToken::Text("x"),
+        ];
+        let captures = [
+            capture("", 1, FormatConv::Str),
+            capture("a b", 3, FormatConv::Str),
+            capture("n", 8, FormatConv::Str),
+            FormatToken::Text("é"),
+            capture("", 15, FormatConv::Repr),
+        ];
+        let cases: [(&str, &[FormatToken]); 5] = [
+            ("", &none),
+            ("a{b!r}}}", &row),
+            ("{{}}é{{}}x", &escapes),
+            ("{}{a b}{n!s}é{!r}", &captures),
+            ("plain!r", &[FormatToken::Text("plain!r")]),
+        ];
+        for (text, wanted) in cases {
+            let mut parser = FormatParser::new(text);
+            for token in wanted {
+                assert_eq!(rt; parser.next(), Ok(Some(*token)), "{text}");
+            }
+            assert_eq!(rt; parser.next(), Ok(None), "{text}");
+            assert_eq!(rt; parser.next(), Ok(None), "{text}");
+        }
+        Ok(())
+    }
+
+    #[test]
+    fn errors(rt: HostRuntime) -> Result<(), Fail> {
+        let standalone = FormatErrorKind::Standalone;
+        let unmatched = FormatErrorKind::Unmatched;
+        let conversion = FormatErrorKind::Conversion;
+        let cases = [
+            (
+                "}foo",
+                0,
+                standalone,
+                "Standalone '}' in format string `}foo`",
+            ),
+            ("a{b", 1, unmatched, "Unmatched '{' in format string `a{b`"),
+            (
+                "{a{b}",
+                0,
+                unmatched,
+                "Unmatched '{' in format string `{a{b}`",
+            ),
+            (
+                "{a!x",
+                0,
+                unmatched,
+                "Unmatched '{' in format string `{a!x`",
+            ),
+            (
+                "{a!x}",
+                0,
+                conversion,
+                "Unknown conversion in format string `{a!x}`",
+            ),
+            (
+                "{a!}",
+                0,
+                conversion,
+                "Unknown conversion in format string `{a!}`",
+            ),
+            (
+                "{a!s!r}",
+                0,
+                conversion,
+                "Unknown conversion in format string `{a!s!r}`",
+            ),
+            (
+                "{}}",
+                1,
+                standalone,
+                "Standalone '}' in format string `{}}`",
+            ),
+            (
+                "é{{}",
+                2,
+                standalone,
+                "Standalone '}' in format string `é{{}`",
+            ),
+        ];
+        for (text, before, kind, shown) in cases {
+            let mut parser = FormatParser::new(text);
+            for _ in 0..before {
+                assert!(rt; matches!(parser.next(), Ok(Some(_))), "{text}");
+            }
+            for _ in 0..2 {
+                let error = FormatError { kind, text };
+                assert_eq!(rt; parser.next(), Err(error), "{text}");
+                assert_eq!(rt; error.to_string(rt.alloc())?.as_str(), shown);
+            }
+        }
+        Ok(())
+    }
+
+    #[test]
+    fn braces(rt: HostRuntime) {
+        for (brace, one, two) in [
+            (EscapeCurlyBrace::Open, "{", "{{"),
+            (EscapeCurlyBrace::Close, "}", "}}"),
+        ] {
+            assert_eq!(rt; brace.as_str(), one);
+            assert_eq!(rt; brace.back_to_escape(), two);
+        }
+    }
+}
