@@ -11,6 +11,7 @@ mod literal;
 pub mod number;
 mod parts;
 mod scan;
+mod state;
 #[cfg(test)]
 mod tests;
 pub mod token;

@@ -11,10 +11,8 @@ ghost use Rattle.starlark_lexer.specs.declared.scan.Mode.TheVariants.{Inside};
 ghost use Rattle.starlark_lexer.specs.Parts.{left, Begins, Hands, Spans, IsWhole, IsReady, Comes, Stands};
 
 use crate::literal::{Form, Sort, bytes_value, text_value};
-use crate::scan::{
-    Kind, Mode, State, Turn, after, begin_of, body_of, field_of, gap, here, in_text, is_joined,
-    line_turn, pop, text_here, turned,
-};
+use crate::scan::{Kind, Mode, State, Turn, gap, here, line_turn, text_here};
+use crate::state::{after, begin_of, body_of, field_of, in_text, is_joined, pop, turned};
 use crate::token::{FStringQuote, LexemeError, Token, TokenInt};
 use crate::words::{Keyword, Operator};
 use std::alloc::{AllocError, Global};
