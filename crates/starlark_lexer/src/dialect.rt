@@ -30,12 +30,12 @@ pub struct Dialect {
     pub enable_load_reexport: bool,
     /// `if` and `for` outside of functions.
     pub enable_top_level_stmt: bool,
-    /// Format strings.
+    /// f-strings.
     pub enable_f_strings: bool,
 }
 
 impl Dialect {
-    /// The language as most tools have it.
+    /// The default: definitions, lambdas and loads, and no more.
     pub const Standard: Dialect = Dialect {
         enable_def: true,
         enable_lambda: true,
@@ -48,7 +48,7 @@ impl Dialect {
         enable_f_strings: false,
     };
 
-    /// All but format strings.
+    /// All but f-strings.
     pub const Extended: Dialect = Dialect {
         enable_def: true,
         enable_lambda: true,

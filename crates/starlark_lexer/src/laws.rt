@@ -19,8 +19,9 @@ pub fn joined_texts()
     ensures flat { (a b : List ℕ) (l m : Lexed) → Lex start a l → Lex start b m → l.fault ≡ None → m.fault ≡ None → IsClosed a → IsEven l.items → count_by dedent_item l.items ≡ 0 → IsJoined a b l m }
 {}
 
-/// Where Dedents close the first, they stand behind the line ends and comments at the front of the
-/// second, whose first line that has a width is not indented.
+/// The same of two texts without fault, of which the first is closed and even, where Dedents may
+/// close the first: they stand behind the line ends and comments at the front of the second, whose
+/// first line that has a width is not indented.
 pub fn joined_layouts()
     ensures { (a b : List ℕ) (l m : Lexed) → Lex start a l → Lex start b m → l.fault ≡ None → m.fault ≡ None → IsClosed a → IsEven l.items → opens_level m.items ≡ true → IsLaid a b l m }
 {}

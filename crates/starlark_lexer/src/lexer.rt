@@ -95,7 +95,8 @@ impl<'a> Lexer<'a> {
         }
     }
 
-    /// How many bytes were looked at so far: a byte counts each time.
+    /// How many looks at bytes the scanner has counted so far: a byte counts each time. The sum stops at the greatest
+    /// `u64`.
     pub fn reads(&self) -> u64
         ensures value { result ≡ self.now.reads }
     {

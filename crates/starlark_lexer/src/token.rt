@@ -7,7 +7,7 @@ use thiserror::Error;
 pub enum TokenInt {
     /// One that fits 32 bits.
     I32(i32),
-    /// Any other: its digits in lower case without leading zeros, and their radix.
+    /// Any other: its digits in lower case without leading zeros, whether it is negative, and the radix.
     BigInt {
         digits: String,
         negative: bool,
@@ -38,7 +38,7 @@ pub enum Token {
     Newline,
     Indent,
     Dedent,
-    /// All behind the `#`.
+    /// All behind the `#`, up to the line's end.
     Comment(String),
     Identifier(String),
     Int(TokenInt),
@@ -115,10 +115,10 @@ pub enum Token {
 /// Why a text is refused.
 #[derive(Clone, Copy, Debug, PartialEq, Eq, Error)]
 pub enum LexemeError {
-    /// A line begins with a blank that may not stand there.
+    /// A line's width is not open, and not greater than all that are.
     #[error("incorrect indentation")]
     Indentation,
-    /// A character, a word or a run of digits that is no lexeme.
+    /// A character that begins no lexeme.
     #[error("invalid input")]
     InvalidInput,
     /// A tab among the blanks that a line begins with.

@@ -35,7 +35,7 @@ pub enum PartFault {
     Long,
     /// The text alone is refused there, by its own lines and columns.
     Parse(FaultKind, ResolvedSpan),
-    /// The text is empty, does not end in a line feed, or escapes its last one.
+    /// The text is empty, does not end in a line feed, or has a backslash right before its last line end.
     Open,
     /// Memory ran out.
     Memory,
