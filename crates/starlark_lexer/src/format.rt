@@ -263,46 +263,51 @@ mod tests {
     }
 
     #[test]
-    fn tokens(rt: HostRuntime) -> Result<(), Fail> {
-        let open = FormatToken::Escape(EscapeCurlyBrace::Open);
-        let close = FormatToken::Escape(EscapeCurlyBrace::Close);
-        let none: [FormatToken; 0] = [];
-        let row = [
-            FormatToken::Text("a"),
-            capture("b", 2, FormatConv::Repr),
-            close,
-        ];
-        let escapes = [
-            open,
-            close,
-            FormatToken::Text("é"),
-            open,
-            close,
-            FormatToken::Text("x"),
-        ];
-        let captures = [
-            capture("", 1, FormatConv::Str),
-            capture("a b", 3, FormatConv::Str),
-            capture("n", 8, FormatConv::Str),
-            FormatToken::Text("é"),
-            capture("", 15, FormatConv::Repr),
-        ];
-        let cases: [(&str, &[FormatToken]); 5] = [
-            ("", &none),
-            ("a{b!r}}}", &row),
-            ("{{}}é{{}}x", &escapes),
-            ("{}{a b}{n!s}é{!r}", &captures),
-            ("plain!r", &[FormatToken::Text("plain!r")]),
-        ];
-        for (text, wanted) in cases {
-            let mut parser = FormatParser::new(text);
-            for token in wanted {
-                assert_eq!(rt; parser.next(), Ok(Some(*token)), "{text}");
-            }
-            assert_eq!(rt; parser.next(), Ok(None), "{text}");
-            assert_eq!(rt; parser.next(), Ok(None), "{text}");
-        }
-        Ok(())
+    fn tokens(rt: HostRuntime) {
+        let mut parser = FormatParser::new("a{b!r}}}");
+        assert_eq!(rt; parser.next(), Ok(Some(FormatToken::Text("a"))));
+        assert_eq!(rt; parser.next(), Ok(Some(capture("b", 2, FormatConv::Repr))));
+        assert_eq!(rt;
+            parser.next(),
+            Ok(Some(FormatToken::Escape(EscapeCurlyBrace::Close)))
+        );
+        assert_eq!(rt; parser.next(), Ok(None));
+        assert_eq!(rt; parser.next(), Ok(None));
+    }
+
+    #[test]
+    fn escapes(rt: HostRuntime) {
+        let mut parser = FormatParser::new("{{}}é{{");
+        assert_eq!(rt;
+            parser.next(),
+            Ok(Some(FormatToken::Escape(EscapeCurlyBrace::Open)))
+        );
+        assert_eq!(rt;
+            parser.next(),
+            Ok(Some(FormatToken::Escape(EscapeCurlyBrace::Close)))
+        );
+        assert_eq!(rt; parser.next(), Ok(Some(FormatToken::Text("é"))));
+        assert_eq!(rt;
+            parser.next(),
+            Ok(Some(FormatToken::Escape(EscapeCurlyBrace::Open)))
+        );
+        assert_eq!(rt; parser.next(), Ok(None));
+    }
+
+    #[test]
+    fn captures(rt: HostRuntime) {
+        let mut parser = FormatParser::new("{}{a b}{n!s}é{!r}");
+        assert_eq!(rt; parser.next(), Ok(Some(capture("", 1, FormatConv::Str))));
+        assert_eq!(rt; parser.next(), Ok(Some(capture("a b", 3, FormatConv::Str))));
+        assert_eq!(rt; parser.next(), Ok(Some(capture("n", 8, FormatConv::Str))));
+        assert_eq!(rt; parser.next(), Ok(Some(FormatToken::Text("é"))));
+        assert_eq!(rt; parser.next(), Ok(Some(capture("", 15, FormatConv::Repr))));
+        assert_eq!(rt; parser.next(), Ok(None));
+        assert_eq!(rt;
+            FormatParser::new("plain!r").next(),
+            Ok(Some(FormatToken::Text("plain!r")))
+        );
+        assert_eq!(rt; FormatParser::new("").next(), Ok(None));
     }
 
     #[test]

@@ -284,7 +284,7 @@ mod tests {
         let taken: [(u64, &[u8], PartFault); 9] = [
             (4, b"x\n", PartFault::Index),
             (3, b"\xff\n", PartFault::Utf8),
-            (3, b"c()\n", PartFault::Long),
+            (3, b"c(1)\n", PartFault::Long),
             (3, b"$ =", refusal(FaultKind::Lexer, (0, 0), (0, 1))),
             (3, b"f(\n", refusal(FaultKind::Syntax, (1, 0), (1, 0))),
             (3, b"1=2", refusal(FaultKind::Rule, (0, 0), (0, 1))),
