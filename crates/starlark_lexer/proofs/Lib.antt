@@ -33,3 +33,4 @@ mod Joined
 mod JoinedLayouts
 mod Covered
 mod Firm
+pub mod Examples

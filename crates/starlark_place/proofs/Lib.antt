@@ -1,3 +1,4 @@
 pub mod Characters
 pub mod Counts
 pub mod Lines
+pub mod Examples
