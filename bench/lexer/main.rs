@@ -66,8 +66,14 @@ fn is_ours(text: &str) -> bool {
     token_count(text) < token_count(&format!("{text}\nx\n"))
 }
 
-/// The peer's median of some runs in nanoseconds a byte, or none where it finds a fault.
-fn peer(program: &str, file: &Path, runs: usize) -> Option<f64> {
+/// Nanoseconds a byte of some runs.
+struct Times {
+    median: f64,
+    least: f64,
+}
+
+/// The peer's times of some runs, or none where it finds a fault.
+fn peer(program: &str, file: &Path, runs: usize) -> Option<Times> {
     let out = Command::new(program)
         .args([
             "bench".as_ref(),
@@ -78,12 +84,22 @@ fn peer(program: &str, file: &Path, runs: usize) -> Option<f64> {
         .output()
         .expect("the peer");
     let text = String::from_utf8_lossy(&out.stdout).into_owned();
-    let shown = text.split("median_ns_per_byte=").nth(1)?;
-    shown.split_whitespace().next()?.parse().ok()
+    let shown = |name| {
+        text.split(name)
+            .nth(1)?
+            .split_whitespace()
+            .next()?
+            .parse()
+            .ok()
+    };
+    Some(Times {
+        median: shown("median_ns_per_byte=")?,
+        least: shown("min=")?,
+    })
 }
 
-/// Our median of some runs, after two to warm up, as the peer has it.
-fn own(text: &str, runs: usize, call: fn(&str) -> u64) -> f64 {
+/// Our times of some runs, after two to warm up, as the peer has it.
+fn own(text: &str, runs: usize, call: fn(&str) -> u64) -> Times {
     call(text);
     call(text);
     let mut times = Vec::new();
@@ -92,7 +108,10 @@ fn own(text: &str, runs: usize, call: fn(&str) -> u64) -> f64 {
         black_box(call(black_box(text)));
         times.push(begin.elapsed().as_nanos() as f64 / text.len() as f64);
     }
-    median(times)
+    Times {
+        least: times.iter().copied().fold(f64::INFINITY, f64::min),
+        median: median(times),
+    }
 }
 
 fn median(mut times: Vec<f64>) -> f64 {
@@ -161,14 +180,19 @@ fn grow(what: &str, file: &str, times: &str) {
     println!("{}", status("VmHWM") - before);
 }
 
-/// Prints how our time a byte compares with the peer's: the median of rounds that take the two in turn.
+/// Prints how our time a byte compares with the peer's, over rounds that take the two in turn: the median of the rounds'
+/// ratios of medians, and the ratio of the least times of all.
 fn compare(name: &str, call: fn(&str) -> u64, text: &str, program: &str, file: &Path) {
     let mut rounds = Vec::new();
+    let (mut ours, mut others) = (f64::INFINITY, f64::INFINITY);
     for _ in 0..ROUNDS {
         let theirs = peer(program, file, RUNS).expect("the peer's time");
-        rounds.push(own(text, RUNS, call) / theirs);
+        let own = own(text, RUNS, call);
+        rounds.push(own.median / theirs.median);
+        (ours, others) = (ours.min(own.least), others.min(theirs.least));
     }
-    println!("{name}: {:.3} of the peer's time a byte", median(rounds));
+    let (rounds, least) = (median(rounds), ours / others);
+    println!("{name}: {rounds:.3} of the peer's time a byte, {least:.3} of its least");
 }
 
 fn main() {

@@ -1,5 +1,5 @@
 -- A turn cuts the text between characters.
-use Rattle.std.proofs.Common.{◌≡◌, ◌<◌, ◌≤◌, ℕ, ◌+◌, ◌-◌, Bool, true, false, cond, ◌&&◌, ◌||◌, List, [], ◌∷◌, length, take, drop, get_or, refl, ap, sym, ◌∙◌, arith, zero, suc, inl, inr, eqb, ltb, leb, subst, length-drop, get_or-drop, one-add, IsUtf8}
+use Rattle.std.proofs.Common.{◌≡◌, ◌<◌, ◌≤◌, ℕ, ◌+◌, ◌-◌, Bool, true, false, cond, ◌&&◌, ◌||◌, List, [], ◌∷◌, length, take, drop, get_or, refl, ap, sym, ◌∙◌, arith, zero, suc, inl, inr, eqb, ltb, subst, length-drop, get_or-drop, one-add, IsUtf8}
 use Rattle.std.specs.Prelude.{Option, Some, None}
 use Rattle.std.specs.Str.{IsCharBoundary, bytes_eq}
 use Rattle.std.proofs.lemmas.Bool.{cases_Bool, cases_lt, false≢true}
@@ -17,7 +17,6 @@ use Rattle.starlark_lexer.specs.declared.literal.Ending.{Ending}
 use Rattle.starlark_lexer.specs.declared.literal.Ending.TheVariants as ending
 use Rattle.starlark_lexer.specs.declared.words.Operator.{Operator}
 use Rattle.starlark_lexer.specs.declared.words.Keyword.{Keyword}
-use Rattle.starlark_lexer.specs.declared.scan.Class.TheVariants as class
 use Rattle.starlark_lexer.specs.declared.scan.Kind.{Kind}
 use Rattle.starlark_lexer.specs.declared.scan.Kind.TheVariants as kind
 use Rattle.starlark_lexer.specs.declared.scan.Found.{Found}
@@ -30,10 +29,10 @@ use Rattle.starlark_lexer.specs.Classes.{is_blank, is_word_byte, begins_word, be
 use Rattle.starlark_lexer.specs.Scan.{is_in, scan, scan_more, by_front, first_row, here, text_turn, literal_turn, opens_turn, at_ground, turn_of, line_from, line_turn, fits, kept, pass, gap, more_than, signed_len, exponent_len, fraction_len, tail_len, based_len, decimal, decimal_scan, number_scan}
 use Rattle.starlark_lexer.specs.Scan as scans
 use Rattle.starlark_lexer.specs.Turns.{Bounds, Slices}
-use Rattle.starlark_lexer.proofs.Gaps.{pass_within, gap_step, gap_stop, line_end_within, line_len_within}
+use Rattle.starlark_lexer.proofs.Gaps.{pass_within, gap_step, gap_stop}
 use Rattle.starlark_lexer.proofs.Tables.{Row, Right, operators_right, both}
 use Rattle.starlark_lexer.proofs.Openings.{opening_some, opening_last}
-use Rattle.starlark_lexer.proofs.Bodies.{IsBounded, body_bounds, body_within}
+use Rattle.starlark_lexer.proofs.Bodies.{IsBounded, body_bounds}
 
 -- ---- between characters
 

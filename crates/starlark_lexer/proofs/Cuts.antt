@@ -1,9 +1,8 @@
 -- A turn goes forward, within the rest.
-use Rattle.std.proofs.Common.{◌≡◌, ◌<◌, ◌≤◌, ℕ, ◌+◌, ◌-◌, ◌^◌, Bool, true, false, cond, List, [], ◌∷◌, length, take, drop, get_or, refl, ap, sym, ◌∙◌, arith, zero, suc, rules, inl, inr, eqb, ltb, ◌&&◌, ◌||◌, subst, length-drop, get_or-drop, one-add}
-use Rattle.std.specs.Prelude.{◌⊎◌, Option, Some, None}
-use Rattle.std.proofs.lemmas.Bool.{cases_Bool, false≢true, cases_lt}
-use Rattle.std.proofs.lemmas.Bool.Decides.{nat_tests}
-use Rattle.std.proofs.lemmas.List.Sums.{prefix_len_passes, prefix_len-le-length}
+use Rattle.std.proofs.Common.{◌≡◌, ◌<◌, ◌≤◌, ℕ, ◌+◌, ◌^◌, Bool, true, List, [], ◌∷◌, length, drop, refl, ap, arith, zero, suc, inl, inr, eqb, ltb, ◌&&◌, length-drop}
+use Rattle.std.specs.Prelude.{Option, Some, None}
+use Rattle.std.proofs.lemmas.Bool.{cases_Bool}
+use Rattle.std.proofs.lemmas.List.Sums.{prefix_len-le-length}
 use Rattle.std.specs.List.{prefix_len}
 use Rattle.std.specs.Char.{is_ascii_digit}
 use Rattle.starlark_lexer.specs.declared.literal.Form.{Form}
@@ -20,13 +19,13 @@ use Rattle.starlark_lexer.specs.declared.scan.Turn.{Turn}
 use Rattle.starlark_lexer.specs.declared.scan.Turn.TheVariants as turns
 use Rattle.starlark_lexer.specs.Literals.{body, quotes, is_format}
 use Rattle.starlark_lexer.specs.Fronts.{opening_front}
-use Rattle.starlark_lexer.specs.Classes.{is_word_byte, begins_word, begins_digit, operators, line_end, line_len, leading, blanks, has_tab, spaces, is_open, closes_field}
+use Rattle.starlark_lexer.specs.Classes.{is_word_byte, begins_word, begins_digit, operators, line_len, leading, blanks, has_tab, spaces, is_open, closes_field}
 use Rattle.starlark_lexer.specs.Scan.{is_in, scan, scan_more, by_front, first_row, here, text_turn, literal_turn, opens_turn, at_ground, turn_of, line_from, line_turn, fits, kept, IsEnding}
 use Rattle.starlark_lexer.specs.Scan as scans
 use Rattle.starlark_lexer.specs.Turns.{IsWithin, Cuts, Keeps, IsLexical}
 use Rattle.starlark_lexer.proofs.Runs.{run_nonempty}
 use Rattle.starlark_lexer.proofs.Gaps.{line_end_within, line_len_within}
-use Rattle.starlark_lexer.proofs.Longest.{begins_goes, number_scanned, pointed_by, word_rule}
+use Rattle.starlark_lexer.proofs.Longest.{begins_goes, number_scanned, pointed_by}
 use Rattle.starlark_lexer.proofs.Tables.{Right, operators_right}
 use Rattle.starlark_lexer.proofs.Openings.{opening_some}
 use Rattle.starlark_lexer.proofs.Bodies.{IsInside, body_within}

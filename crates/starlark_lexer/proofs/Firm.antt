@@ -1,5 +1,5 @@
 -- Identifiers and integers have bytes, the first of which is an ASCII byte.
-use Rattle.std.proofs.Common.{◌≡◌, ◌<◌, ◌≤◌, ℕ, ◌+◌, Bool, true, false, ◌&&◌, List, [], ◌∷◌, ◌++◌, length, take, drop, get_or, refl, ap, sym, ◌∙◌, arith, zero, suc, inl, inr, eqb, ltb, subst}
+use Rattle.std.proofs.Common.{◌≡◌, ◌<◌, ℕ, ◌+◌, Bool, true, false, List, [], ◌∷◌, ◌++◌, length, take, drop, get_or, refl, ap, sym, ◌∙◌, arith, zero, suc, inl, inr, eqb, ltb}
 use Rattle.std.specs.Prelude.{Option, Some, None}
 use Rattle.std.specs.Char.{is_ascii_digit}
 use Rattle.std.proofs.lemmas.Bool.{cases_Bool}
@@ -8,12 +8,12 @@ use Rattle.std.proofs.lemmas.List.{drop-drop, get_or-drop}
 use Rattle.starlark_lexer.specs.declared.token.LexemeError.TheVariants.{InvalidInput}
 use Rattle.starlark_lexer.specs.declared.literal.Sort.{Sort}
 use Rattle.starlark_lexer.specs.declared.literal.Sort.TheVariants as sort
-use Rattle.starlark_lexer.specs.Items.{Lexeme, Item, Lexed, item, newline, comment, fstring_start, fstring_text, fstring_expr_start, fstring_expr_end, fstring_bang, fstring_end, dedent, dedents}
+use Rattle.starlark_lexer.specs.Items.{Lexeme, Item, Lexed, newline, comment, fstring_start, fstring_text, fstring_expr_start, fstring_expr_end, fstring_bang, fstring_end, dedents}
 use Rattle.starlark_lexer.specs.Literals.{opening_of, quotes, value}
-use Rattle.starlark_lexer.specs.Classes.{Meaning, token, refused, when, or_else, by_opening, meaning, begins_word, operator_of, is_other, leading, width, line_len, line_end, escaped, IsLexeme}
+use Rattle.starlark_lexer.specs.Classes.{Meaning, token, refused, when, meaning, begins_word, operator_of, is_other, leading, line_len, line_end, escaped, IsLexeme}
 use Rattle.starlark_lexer.specs.Lex.{Past, Mode, Move, on, over, Step, Lex, goes_on, is_over, start, gives, turns, literal_lexeme}
 use Rattle.starlark_lexer.specs.Lex as rules
-use Rattle.starlark_lexer.specs.Order.{IsName, IsFirm, AreFirm}
+use Rattle.starlark_lexer.specs.Order.{IsName, AreFirm}
 use Rattle.starlark_lexer.proofs.Openings.{begins_opening, none_first}
 use Rattle.starlark_lexer.proofs.Tables.{begins_operator, no_operator}
 

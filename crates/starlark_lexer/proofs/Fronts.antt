@@ -1,15 +1,14 @@
 -- The longest front of a text in each class of numbers.
-use Rattle.std.proofs.Common.{◌≡◌, ◌<◌, ◌≤◌, ℕ, ◌+◌, ◌-◌, Bool, true, false, cond, ◌&&◌, ◌||◌, List, [], ◌∷◌, length, take, drop, get_or, refl, ap, sym, ◌∙◌, arith, zero, suc, inl, inr, eqb, ltb, subst, one-add, length-drop}
-use Rattle.std.proofs.lemmas.Grind.{common_steps}
-use Rattle.std.proofs.lemmas.Bool.{cases_Bool, false≢true, cases_lt}
+use Rattle.std.proofs.Common.{◌≡◌, ◌<◌, ◌≤◌, ℕ, ◌+◌, ◌-◌, Bool, true, false, cond, ◌&&◌, ◌||◌, List, [], ◌∷◌, length, take, drop, refl, ap, sym, ◌∙◌, arith, zero, suc, inl, inr, eqb, ltb, subst, one-add, length-drop}
+use Rattle.std.proofs.lemmas.Bool.{cases_Bool, cases_lt}
 use Rattle.std.proofs.lemmas.Bool.Decides.{nat_tests}
 use Rattle.std.proofs.lemmas.List.{length-take-le, get_or-take}
 use Rattle.std.proofs.lemmas.List.Folds.{list_all_at}
 use Rattle.std.proofs.lemmas.List.Sums.{prefix_len_stops, prefix_len-le-length}
 use Rattle.std.specs.List.{prefix_len, list_all}
 use Rattle.std.specs.Char.{is_digit, is_ascii_digit}
-use Rattle.starlark_lexer.specs.Classes.{is_nil, is_digits, is_signed, is_exponent, ends_float, is_fraction, is_float, begins_digit, begins_number, behind_digits, digits_len, radix_of, is_digits_of, is_radix_digits, is_based}
-use Rattle.starlark_lexer.specs.Scan.{more_than, signed_len, exponent_len, fraction_len, tail_len, based_len}
+use Rattle.starlark_lexer.specs.Classes.{is_nil, is_digits, is_signed, is_exponent, ends_float, is_fraction, digits_len, radix_of, is_digits_of, is_radix_digits, is_based}
+use Rattle.starlark_lexer.specs.Scan.{more_than, signed_len, exponent_len, fraction_len, tail_len}
 use Rattle.starlark_lexer.proofs.Runs.{list_all_run}
 
 -- the longest front that passes the test has n bytes

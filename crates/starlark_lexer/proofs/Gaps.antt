@@ -1,10 +1,9 @@
 -- The bytes that are passed over.
-use Rattle.std.proofs.Common.{◌≡◌, ◌<◌, ◌≤◌, ℕ, ◌+◌, ◌-◌, Bool, true, false, cond, ◌&&◌, List, [], ◌∷◌, length, take, drop, get_or, refl, ap, sym, ◌∙◌, arith, zero, suc, ◌⊎◌, inl, inr, eqb, ltb, one-add, length-drop, subst}
-use Rattle.std.proofs.lemmas.Grind.{common_steps}
+use Rattle.std.proofs.Common.{◌≡◌, ◌<◌, ◌≤◌, ℕ, ◌+◌, Bool, true, false, List, [], ◌∷◌, length, drop, refl, ap, sym, arith, zero, suc, inl, inr, eqb}
 use Rattle.std.proofs.lemmas.Bool.{cases_Bool, false≢true}
 use Rattle.std.proofs.lemmas.Bool.Decides.{nat_tests}
 use Rattle.std.proofs.lemmas.List.{drop-drop}
-use Rattle.starlark_lexer.specs.Classes.{is_blank, line_end, line_len, begins_line, escaped}
+use Rattle.starlark_lexer.specs.Classes.{is_blank, line_end, line_len, begins_line}
 use Rattle.starlark_lexer.specs.Scan.{pass, gap}
 
 begins_some : (xs : List ℕ) → begins_line xs ≡ true → 0 < length xs

@@ -1,5 +1,5 @@
 -- What a call hands out, by the turn that comes.
-use Rattle.std.proofs.Common.{◌≡◌, ◌<◌, ◌≤◌, ℕ, ◌+◌, ◌-◌, Bool, true, false, cond, List, [], ◌∷◌, ◌++◌, length, take, drop, refl, ap, sym, ◌∙◌, arith, zero, suc, inl, inr, subst, length-drop, IsUtf8, is_ok}
+use Rattle.std.proofs.Common.{◌≡◌, ◌<◌, ℕ, ◌+◌, ◌-◌, Bool, true, false, cond, List, [], ◌∷◌, ◌++◌, length, take, drop, ap, sym, ◌∙◌, arith, suc, subst, length-drop, IsUtf8, is_ok}
 use Rattle.std.specs.Prelude.{Result, Ok, Err}
 use Rattle.std.specs.Result.{is_err}
 use Rattle.std.proofs.lemmas.Bool.{false≢true}
@@ -16,9 +16,9 @@ use Rattle.starlark_lexer.specs.declared.scan.Turn.TheVariants as turns
 use Rattle.starlark_lexer.specs.declared.token.LexemeError.{LexemeError}
 use Rattle.starlark_lexer.specs.declared.token.LexemeError.TheVariants.{InvalidTab, UnfinishedStringLiteral}
 use Rattle.starlark_lexer.specs.declared.parts.Parts.{Parts}
-use Rattle.starlark_lexer.specs.Items.{Lexed, Lexeme, nothing, newline, indent, dedent, fstring_start, fstring_end, fstring_expr_start, fstring_expr_end, with_item, with_items, with_fault, dedents, answers}
+use Rattle.starlark_lexer.specs.Items.{Lexeme, nothing, newline, indent, dedent, fstring_start, fstring_end, fstring_expr_start, fstring_expr_end, with_item, with_items, with_fault, dedents, answers}
 use Rattle.starlark_lexer.specs.Literals.{body, is_format}
-use Rattle.starlark_lexer.specs.Scan.{At, Act, act, follow, step, left_at, skip, after, turned, last_mode, field_of, body_of, begin_of, lexeme_from, line_turn, here, text_turn, goes_by, in_text, is_joined, gap, pass}
+use Rattle.starlark_lexer.specs.Scan.{At, act, follow, left_at, skip, after, turned, last_mode, field_of, body_of, begin_of, lexeme_from, line_turn, here, text_turn, goes_by, in_text, is_joined, gap, pass}
 use Rattle.starlark_lexer.specs.Parts.{at, left, IsMode, IsWhole, IsReady, Comes, Stands}
 use Rattle.starlark_lexer.proofs.Machine.{left_step, left_gap, gap_over, step_fresh, step_within, step_text, here_lexical, text_lexical}
 use Rattle.starlark_lexer.proofs.Cuts.{line_cuts, here_cuts, text_cuts, line_keeps, lexical_keeps}

@@ -9,6 +9,8 @@ mod Bodies
 mod Values
 mod Openings
 mod Tables
+mod Singles
+mod Fixed
 mod Fronts
 mod Longest
 mod Scanned

@@ -1,32 +1,25 @@
 -- What `scan` finds is the longest front of the text in any class.
-use Rattle.std.proofs.Common.{◌≡◌, ◌<◌, ◌≤◌, ℕ, ◌+◌, ◌-◌, Bool, true, false, cond, not, ◌&&◌, ◌||◌, List, [], ◌∷◌, length, take, drop, get_or, refl, ap, sym, ◌∙◌, arith, zero, suc, rules, inl, inr, eqb, ltb, subst, one-add, length-drop}
+use Rattle.std.proofs.Common.{◌≡◌, ◌<◌, ◌≤◌, ℕ, ◌+◌, ◌-◌, Bool, true, false, cond, not, ◌&&◌, ◌||◌, List, [], ◌∷◌, length, take, drop, refl, ap, sym, ◌∙◌, arith, zero, suc, inl, inr, eqb, ltb, subst, one-add, length-drop}
 use Rattle.std.specs.Prelude.{Option, Some, None}
-use Rattle.std.proofs.lemmas.Grind.{common_steps}
 use Rattle.std.proofs.lemmas.Bool.{cases_Bool, false≢true}
 use Rattle.std.proofs.lemmas.Bool.Decides.{nat_tests}
-use Rattle.std.proofs.lemmas.List.{length-take-le}
 use Rattle.std.proofs.lemmas.List.Sums.{prefix_len-le-length}
 use Rattle.std.specs.List.{prefix_len, list_all}
 use Rattle.std.specs.Char.{is_digit, is_ascii_digit}
-use Rattle.starlark_lexer.specs.declared.literal.Form.{Form}
 use Rattle.starlark_lexer.specs.declared.words.Operator.{Operator}
 use Rattle.starlark_lexer.specs.declared.words.Keyword.{Keyword}
-use Rattle.starlark_lexer.specs.declared.scan.Class.TheVariants as class
 use Rattle.starlark_lexer.specs.declared.scan.Found.{Found}
 use Rattle.starlark_lexer.specs.declared.scan.Found.TheVariants as found
-use Rattle.starlark_lexer.specs.declared.scan.Kind.{Kind}
 use Rattle.starlark_lexer.specs.declared.scan.Kind.TheVariants as kind
 use Rattle.starlark_lexer.specs.declared.token.LexemeError.TheVariants.{InvalidInput, StartsZero}
 use Rattle.starlark_lexer.specs.Items.{integer, float, operator_lexeme}
 use Rattle.starlark_lexer.specs.Number.{number}
 use Rattle.starlark_lexer.specs.Literals.{opening_of}
-use Rattle.starlark_lexer.specs.Fronts.{opening_front}
-use Rattle.starlark_lexer.specs.Classes.{Meaning, plain_word, by_keyword, token, refused, opens, when, or_else, meaning, by_opening, by_operator, operator_of, operators, lookup, is_word, is_digits, is_zeros, is_decimal, is_based, base_of, radix_of, is_float, begins_digit, begins_number, behind_digits, digits_len, is_other, is_nil, is_blank, is_word_byte, begins_word, is_continuation, word_meaning, keyword_of, is_reserved, IsLexeme}
+use Rattle.starlark_lexer.specs.Classes.{Meaning, plain_word, by_keyword, token, refused, opens, when, or_else, meaning, by_operator, operator_of, operators, lookup, is_word, is_digits, is_zeros, is_decimal, is_based, base_of, radix_of, is_float, begins_digit, behind_digits, digits_len, is_other, is_nil, is_blank, is_word_byte, begins_word, is_continuation, word_meaning, keyword_of, is_reserved, IsLexeme}
 use Rattle.starlark_lexer.specs.Scan.{is_in, scan, scan_more, number_scan, decimal_scan, decimal, tail_len, based_len, first_row, is_pointed, lexeme_from}
 use Rattle.starlark_lexer.specs.Scan as scans
 use Rattle.starlark_lexer.proofs.Runs.{list_all_run}
 use Rattle.starlark_lexer.proofs.Fronts.{stops, behind_run, digits_right, is_tail, tail_right, whole_based, based_right}
-use Rattle.starlark_lexer.proofs.Fronts as fronts
 use Rattle.starlark_lexer.proofs.Tables.{Right, operators_right, begins_operator, no_operator, no_pointed}
 
 -- all classes but that of literals

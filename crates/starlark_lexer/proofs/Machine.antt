@@ -1,14 +1,13 @@
 -- Each step leaves less, so that the steps come to an end.
-use Rattle.std.proofs.Common.{◌≡◌, ◌<◌, ◌≤◌, ℕ, ◌+◌, ◌-◌, ◌*◌, Bool, true, false, cond, List, [], ◌∷◌, length, take, drop, get_or, refl, ap, sym, ◌∙◌, ◌&&◌, eqb, arith, zero, suc, inl, inr, subst, length-drop, add-zero}
+use Rattle.std.proofs.Common.{◌≡◌, ◌<◌, ◌≤◌, ℕ, ◌+◌, Bool, true, false, cond, List, [], ◌∷◌, length, drop, refl, ap, sym, ◌∙◌, ◌&&◌, eqb, arith, zero, suc, inl, inr, subst, length-drop, add-zero}
 use Rattle.std.specs.Prelude.{◌⊎◌}
 use Rattle.std.proofs.lemmas.Bool.{cases_Bool, false≢true}
 use Rattle.std.proofs.lemmas.List.{drop-drop}
-use Rattle.starlark_lexer.specs.declared.scan.State.{State}
 use Rattle.starlark_lexer.specs.declared.scan.Found.{Found}
 use Rattle.starlark_lexer.specs.declared.scan.Found.TheVariants as found
 use Rattle.starlark_lexer.specs.declared.scan.Turn.{Turn}
 use Rattle.starlark_lexer.specs.declared.scan.Turn.TheVariants as turns
-use Rattle.starlark_lexer.specs.Items.{Lexed, Item, with_items}
+use Rattle.starlark_lexer.specs.Items.{Lexed, with_items}
 use Rattle.starlark_lexer.specs.Scan.{At, Act, goes, stops, act, skip, goes_by, within_by, in_text, here, text_turn, literal_turn, opens_turn, at_ground, scan, turn_of, line_turn, step, follow, run, size, left_at, pass, gap, is_joined}
 use Rattle.starlark_lexer.specs.Turns.{Cuts, IsLexical}
 use Rattle.starlark_lexer.proofs.Cuts.{here_cuts, line_cuts, text_cuts}

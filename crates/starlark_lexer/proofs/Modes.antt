@@ -1,5 +1,5 @@
 -- The modes around a place, of which the code keeps the innermost last.
-use Rattle.std.proofs.Common.{◌≡◌, ℕ, ◌-◌, List, [], ◌∷◌, ◌++◌, length, take, refl, ap, ◌∙◌, arith, length-append}
+use Rattle.std.proofs.Common.{◌≡◌, ◌-◌, List, [], ◌∷◌, ◌++◌, length, take, refl, ap, ◌∙◌, arith, length-append}
 use Rattle.starlark_lexer.specs.declared.scan.Mode.{Mode}
 use Rattle.starlark_lexer.specs.Scan.{last_mode}
 

@@ -8,7 +8,7 @@ use Rattle.starlark_lexer.specs.declared.literal.Form.{Form}
 use Rattle.starlark_lexer.specs.declared.literal.Sort.{Sort}
 use Rattle.starlark_lexer.specs.declared.token.FStringQuote.{FStringQuote}
 use Rattle.starlark_lexer.specs.declared.token.FStringQuote.TheVariants.{Single, Double, TripleSingle, TripleDouble}
-use Rattle.starlark_lexer.specs.Fronts.{quote_front, front_of, opening_front}
+use Rattle.starlark_lexer.specs.Fronts.{quote_front, front_of, opening_front, may_open}
 use Rattle.starlark_lexer.specs.Literals.{is_mark, quotes, prefix_of, quote_of, letters, opened, opening_of, begins}
 
 -- ---- quotes
@@ -312,6 +312,15 @@ none_first b bs h =
     let n = letters bs in
     let is : letters (b ∷ bs) ≡ suc n = ap (λ t. cond t (1 + n) 0) (not_mark b h) ∙ one-add n in
     ap (λ k. opened (prefix_of (take k (b ∷ bs))) (quote_of (drop k (b ∷ bs)))) is ∙ ap (λ p. opened p (quote_of (drop n bs))) (prefix_first b (take n bs) h) ∙ unlettered (quote_of (drop n bs))
+
+-- the same of what the code finds
+pub unopened : (xs : List ℕ) → may_open xs ≡ false → opening_front xs ≡ None
+unopened [] h = front_same []
+unopened (b ∷ bs) h =
+    let n = letters bs in
+    let is : letters (b ∷ bs) ≡ suc n = ap (λ t. cond t (1 + n) 0) (not_mark b h) ∙ one-add n in
+    front_same (b ∷ bs) ∙ ap (λ k. front_of (prefix_of (take k (b ∷ bs))) (quote_front (drop k (b ∷ bs))) k) is
+    ∙ ap (λ p. front_of p (quote_front (drop n bs)) (suc n)) (prefix_first b (take n bs) h) ∙ front_none (quote_front (drop n bs)) (suc n)
 
 pub opening_first : (b : ℕ) (bs : List ℕ) (f : Form) → opening_of (b ∷ bs) ≡ Some f → begins_opening b ≡ true
 opening_first b bs f e =

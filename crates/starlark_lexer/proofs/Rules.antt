@@ -1,13 +1,11 @@
 -- Each rule says what the machine does, and some rule holds at each place.
-use Rattle.std.proofs.Common.{◌≡◌, ◌<◌, ◌≤◌, ℕ, ◌+◌, ◌-◌, Bool, true, false, cond, not, ◌&&◌, ◌||◌, List, [], ◌∷◌, ◌++◌, length, take, drop, get_or, refl, ap, sym, ◌∙◌, arith, zero, suc, inl, inr, eqb, ltb, leb, subst, one-add, add-zero, length-drop, length-append, eq-eqb}
+use Rattle.std.proofs.Common.{◌≡◌, ◌<◌, ◌≤◌, ℕ, ◌+◌, ◌-◌, Bool, true, false, cond, not, ◌&&◌, ◌||◌, List, [], ◌∷◌, ◌++◌, length, take, drop, get_or, refl, ap, sym, ◌∙◌, arith, zero, suc, inl, inr, eqb, ltb, leb, subst, one-add, add-zero, length-drop, eq-eqb}
 use Rattle.std.specs.Prelude.{count_by, ◌⊎◌, Option, Some, None}
-use Rattle.std.proofs.lemmas.Grind.{common_steps}
 use Rattle.std.proofs.lemmas.Bool.{cases_Bool, false≢true, cases_lt}
 use Rattle.std.proofs.lemmas.Bool.Decides.{nat_tests}
-use Rattle.std.proofs.lemmas.List.{drop-drop, drop_all}
+use Rattle.std.proofs.lemmas.List.{drop_all}
 use Rattle.std.proofs.lemmas.List.Sums.{prefix_len-le-length, sum_by-cons}
-use Rattle.std.specs.List.{prefix_len, filter}
-use Rattle.std.specs.Char.{is_ascii_digit}
+use Rattle.std.specs.List.{filter}
 use Rattle.starlark_lexer.specs.declared.scan.Kind.{Kind}
 use Rattle.starlark_lexer.specs.declared.scan.Kind.TheVariants as kind
 use Rattle.starlark_lexer.specs.declared.scan.Found.{Found}
@@ -33,13 +31,13 @@ use Rattle.starlark_lexer.specs.declared.words.Keyword.TheVariants as keyword
 use Rattle.starlark_lexer.specs.declared.words.Operator.TheVariants as operator
 use Rattle.starlark_lexer.specs.Items as Items
 use Rattle.starlark_lexer.specs.Items.{Lexeme, keyword_lexeme, newline, comment, fstring_start, fstring_text, fstring_expr_start, fstring_expr_end, fstring_bang, fstring_end, Item, item, Lexed, nothing, with_items, with_fault, is_opening, is_closing, operator_lexeme, opening_item, closing_item, dedents, newline_span}
-use Rattle.starlark_lexer.specs.Classes.{Meaning, token, refused, opens, meaning, is_blank, leading, blanks, has_tab, spaces, width, is_open, line_end, line_len, escaped, begins, closes_field, IsLexeme}
-use Rattle.starlark_lexer.specs.Widths.{IsOpen, IsDeeper, Closes, has}
+use Rattle.starlark_lexer.specs.Classes.{Meaning, token, refused, opens, meaning, is_blank, leading, blanks, has_tab, spaces, width, is_open, line_end, line_len, escaped, closes_field, IsLexeme}
+use Rattle.starlark_lexer.specs.Widths.{IsOpen, IsDeeper, Closes}
 use Rattle.starlark_lexer.specs.Lex as rules
 use Rattle.starlark_lexer.specs.Lex.{Past, Move, on, over, gives, refuses, deepened, fitted, ends, moved, IsBalanced, IsMeasured, Step, literal_lexeme}
 use Rattle.starlark_lexer.specs.Scan.{At, Act, goes, stops, act, skip, goes_by, here, text_turn, literal_turn, opens_turn, in_text, at_ground, joined_in, turned, last_mode, field_of, body_of, begin_of, scan, turn_of, line_from, line_turn, fits, kept, step, pass, is_joined, after, bit, closes, is_newline, lexeme_from}
 use Rattle.starlark_lexer.specs.Scan as scans
-use Rattle.starlark_lexer.proofs.Longest.{meaning_of, Scanned}
+use Rattle.starlark_lexer.proofs.Longest.{Scanned}
 use Rattle.starlark_lexer.proofs.Scanned.{scan_lexeme, is_passed, passed_none}
 use Rattle.starlark_lexer.proofs.Bodies.{field_format}
 use Rattle.starlark_lexer.proofs.Modes.{last_more, take_more}

@@ -1,5 +1,5 @@
 -- What `scan` finds, literals among it, is the longest front of the text in any class.
-use Rattle.std.proofs.Common.{◌≡◌, ◌<◌, ◌≤◌, ℕ, ◌+◌, ◌-◌, Bool, true, false, not, ◌&&◌, ◌||◌, List, [], ◌∷◌, length, take, drop, get_or, refl, ap, sym, ◌∙◌, arith, zero, suc, inl, inr, eqb, ltb, subst}
+use Rattle.std.proofs.Common.{◌≡◌, ◌<◌, ◌≤◌, ℕ, ◌-◌, Bool, true, false, not, ◌&&◌, ◌||◌, List, [], ◌∷◌, length, take, get_or, refl, ap, sym, ◌∙◌, arith, zero, suc, inl, inr, eqb, ltb}
 use Rattle.std.specs.Prelude.{Option, Some, None}
 use Rattle.std.proofs.lemmas.Bool.{cases_Bool, false≢true}
 use Rattle.std.proofs.lemmas.Bool.Decides.{nat_tests}
@@ -9,12 +9,11 @@ use Rattle.std.specs.List.{list_all}
 use Rattle.std.specs.Char.{is_ascii_digit}
 use Rattle.starlark_lexer.specs.declared.literal.Form.{Form}
 use Rattle.starlark_lexer.specs.declared.token.LexemeError.TheVariants.{InvalidInput}
-use Rattle.starlark_lexer.specs.declared.scan.Found.TheVariants as found
 use Rattle.starlark_lexer.specs.Literals.{opening_of, is_mark}
 use Rattle.starlark_lexer.specs.Fronts.{opening_front}
-use Rattle.starlark_lexer.specs.Classes.{Meaning, opens, refused, meaning, when, or_else, by_opening, by_operator, operator_of, is_word, is_word_byte, begins_word, is_blank, is_other, is_nil, IsLexeme}
-use Rattle.starlark_lexer.specs.Scan.{scan, scan_more, by_front}
-use Rattle.starlark_lexer.proofs.Longest.{Scanned, Found_in, longest_lexeme, more_found, begins_goes}
+use Rattle.starlark_lexer.specs.Classes.{opens, refused, meaning, when, or_else, by_opening, operator_of, is_word, is_word_byte, begins_word, is_blank, is_other, is_nil, IsLexeme}
+use Rattle.starlark_lexer.specs.Scan.{scan, by_front}
+use Rattle.starlark_lexer.proofs.Longest.{Scanned, longest_lexeme, more_found, begins_goes}
 use Rattle.starlark_lexer.proofs.Openings.{IsOpening, begins_opening, opening_none, opening_some, opening_first, opening_last}
 use Rattle.starlark_lexer.proofs.Tables.{begins_operator, no_operator}
 

@@ -2,10 +2,11 @@
 use Rattle.std.proofs.Common.{◌≡◌, ◌<◌, ℕ, ◌+◌, Bool, true, false, cond, ◌||◌, List, [], ◌∷◌, ◌++◌, ◌&&◌, Option, Some, None, length, take, drop, get_or, refl, ap, sym, ◌∙◌, arith, inl, inr, eqb, subst, one-add, append_assoc, add-zero, IsUtf8}
 use Rattle.std.proofs.lemmas.Bool.{cases_Bool, false≢true}
 use Rattle.std.proofs.lemmas.Bool.Decides.{nat_tests}
-use Rattle.std.proofs.lemmas.List.{append-nil, get_or-drop, length-drop}
+use Rattle.std.proofs.lemmas.List.{append-nil, get_or-drop, length-drop, drop-drop}
 use Rattle.std.proofs.lemmas.List.Sums.{prefix_len_stops, prefix_len-le-length}
 use Rattle.std.specs.Str.{IsCharBoundary}
 use Rattle.std.specs.List.{prefix_len}
+use Rattle.starlark_lexer.specs.declared.literal.Ending.{Ending}
 use Rattle.starlark_lexer.specs.declared.literal.Form.{Form}
 use Rattle.starlark_lexer.specs.declared.literal.Piece.{Piece}
 use Rattle.starlark_lexer.specs.declared.literal.Piece.TheVariants.{Closing, Field, Stop, Wrong, Nothing, Char, Byte, Same}
@@ -13,9 +14,9 @@ use Rattle.starlark_lexer.specs.declared.token.FStringQuote.{FStringQuote}
 use Rattle.starlark_lexer.specs.declared.token.FStringQuote.TheVariants.{Single, Double, TripleSingle, TripleDouble}
 use Rattle.std.specs.Option.{is_some}
 use Rattle.starlark_lexer.specs.Fronts.{is_plain, ending_at, width, denoted, IsText, IsBytes}
-use Rattle.starlark_lexer.specs.Literals.{mark, goes_on, is_format, is_bytes, piece, Read, by_piece, read, value}
+use Rattle.starlark_lexer.specs.Literals.{mark, goes_on, is_format, is_bytes, piece, Read, by_piece, read, body, later, value}
 use Rattle.starlark_lexer.proofs.Pieces.{IsCut, Cuts, cut_of}
-use Rattle.starlark_lexer.proofs.Bodies.{at_piece, width_of}
+use Rattle.starlark_lexer.proofs.Bodies.{at_piece, at_start, later_more, width_of}
 
 -- ---- plain runs
 
@@ -63,6 +64,30 @@ run f (b ∷ bs) =
           left ∙ sym right ∙ ap (λ c. take (cond c (1 + n) 0) (b ∷ bs) ++ value f (drop (cond c (1 + n) 0) (b ∷ bs))) (sym h)
       | inr h ↦ ap (λ c. take (cond c (1 + prefix_len is_plain bs) 0) (b ∷ bs) ++ value f (drop (cond c (1 + prefix_len is_plain bs) 0) (b ∷ bs))) (sym h)
     ]
+
+-- the ending behind a plain run
+pub body_run : (f : Form) (xs : List ℕ) → body f 0 xs ≡ later (prefix_len is_plain xs) (body f 0 (drop (prefix_len is_plain xs) xs))
+body_run f [] = sym (at_start f [])
+body_run f (b ∷ bs) =
+    elim (cases_Bool (is_plain b)) [
+      | inl h ↦
+          let n = prefix_len is_plain bs in
+          let left : body f 0 (b ∷ bs) ≡ later 1 (later n (body f 0 (drop n bs))) =
+          ap (λ r. r.ending) (at_piece f (b ∷ bs) (Same 1) (plain_piece f b bs h)) ∙ ap (later 1) (body_run f bs) in
+          let right : later (1 + n) (body f 0 (drop (1 + n) (b ∷ bs))) ≡ later (1 + n) (body f 0 (drop n bs)) =
+          ap (λ m. later (1 + n) (body f 0 (drop m (b ∷ bs)))) (one-add n) in
+          left ∙ later_more 1 n (body f 0 (drop n bs)) ∙ sym right ∙ ap (λ c. later (cond c (1 + n) 0) (body f 0 (drop (cond c (1 + n) 0) (b ∷ bs)))) (sym h)
+      | inr h ↦ sym (at_start f (b ∷ bs)) ∙ ap (λ c. later (cond c (1 + prefix_len is_plain bs) 0) (body f 0 (drop (cond c (1 + prefix_len is_plain bs) 0) (b ∷ bs)))) (sym h)
+    ]
+
+-- a body that is read up to i is read up to the end of the plain run that stands there
+pub past_run : (f : Form) (i n : ℕ) (xs : List ℕ) (all : Ending) → later i (body f 0 (drop i xs)) ≡ all → n ≡ prefix_len is_plain (drop i xs) → later (i + n) (body f 0 (drop (i + n) xs)) ≡ all
+past_run f i n xs all is e =
+    let m = prefix_len is_plain (drop i xs) in
+    ap (λ k. later (i + k) (body f 0 (drop (i + k) xs))) e
+    ∙ ap (λ ys. later (i + m) (body f 0 ys)) (sym (drop-drop m i xs))
+    ∙ sym (later_more i m (body f 0 (drop m (drop i xs))))
+    ∙ ap (later i) (sym (body_run f (drop i xs))) ∙ is
 
 -- ---- one piece
 

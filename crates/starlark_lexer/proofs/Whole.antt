@@ -1,8 +1,8 @@
 -- What the machine leaves is in the relation, and all that is in it.
-use Rattle.std.proofs.Common.{◌≡◌, ◌<◌, ◌≤◌, ℕ, ◌+◌, ◌*◌, Bool, true, false, cond, List, [], ◌∷◌, length, refl, ap, sym, ◌∙◌, arith, zero, suc, subst}
+use Rattle.std.proofs.Common.{◌≡◌, ◌<◌, ℕ, List, [], ap, sym, ◌∙◌, arith, zero, suc, subst}
 use Rattle.starlark_lexer.specs.Items.{Lexed, Item, with_items}
 use Rattle.starlark_lexer.specs.Lex.{Past, Move, on, over, Step, Lex, goes_on, is_over, start}
-use Rattle.starlark_lexer.specs.Scan.{At, Act, goes, stops, step, follow, run, size, left_at}
+use Rattle.starlark_lexer.specs.Scan.{Act, goes, stops, step, follow, size, left_at}
 use Rattle.starlark_lexer.proofs.Machine.{left_step, Shorter, shorter}
 use Rattle.starlark_lexer.proofs.Widths.{IsStack, no_lines}
 use Rattle.starlark_lexer.proofs.Rules.{at, Same, same, total}

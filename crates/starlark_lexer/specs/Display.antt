@@ -40,23 +40,27 @@ keyword_text token.Pass = Some (codes "pass")
 keyword_text token.Return = Some (codes "return")
 keyword_text _ = None
 
+-- An operator that assigns by its text.
+abbrev pub assigning_text : Token → Option (List ℕ)
+assigning_text token.Equal = Some (codes "=")
+assigning_text token.PlusEqual = Some (codes "+=")
+assigning_text token.MinusEqual = Some (codes "-=")
+assigning_text token.StarEqual = Some (codes "*=")
+assigning_text token.SlashEqual = Some (codes "/=")
+assigning_text token.SlashSlashEqual = Some (codes "//=")
+assigning_text token.PercentEqual = Some (codes "%=")
+assigning_text token.AmpersandEqual = Some (codes "&=")
+assigning_text token.PipeEqual = Some (codes "|=")
+assigning_text token.CaretEqual = Some (codes "^=")
+assigning_text token.LessLessEqual = Some (codes "<<=")
+assigning_text token.GreaterGreaterEqual = Some (codes ">>=")
+assigning_text _ = None
+
 -- An operator or a bracket by its text.
 abbrev pub symbol_text : Token → Option (List ℕ)
 symbol_text token.Comma = Some (codes ",")
 symbol_text token.Semicolon = Some (codes ";")
 symbol_text token.Colon = Some (codes ":")
-symbol_text token.Equal = Some (codes "=")
-symbol_text token.PlusEqual = Some (codes "+=")
-symbol_text token.MinusEqual = Some (codes "-=")
-symbol_text token.StarEqual = Some (codes "*=")
-symbol_text token.SlashEqual = Some (codes "/=")
-symbol_text token.SlashSlashEqual = Some (codes "//=")
-symbol_text token.PercentEqual = Some (codes "%=")
-symbol_text token.AmpersandEqual = Some (codes "&=")
-symbol_text token.PipeEqual = Some (codes "|=")
-symbol_text token.CaretEqual = Some (codes "^=")
-symbol_text token.LessLessEqual = Some (codes "<<=")
-symbol_text token.GreaterGreaterEqual = Some (codes ">>=")
 symbol_text token.EqualEqual = Some (codes "==")
 symbol_text token.BangEqual = Some (codes "!=")
 symbol_text token.LessThan = Some (codes "<")
@@ -85,7 +89,7 @@ symbol_text token.OpeningSquare = Some (codes "[")
 symbol_text token.ClosingSquare = Some (codes "]")
 symbol_text token.OpeningCurly = Some (codes "{")
 symbol_text token.ClosingCurly = Some (codes "}")
-symbol_text _ = None
+symbol_text t = assigning_text t
 
 -- A token that is neither, and shows no text of its own.
 abbrev pub kind_text : Token → List ℕ

@@ -1,5 +1,5 @@
 -- The prefix and quotes at the front of a text, as the code finds them.
-use Rattle.std.specs.Prelude.{ℕ, ◌+◌, Bool, not, ◌||◌, ◌&&◌, if◌then◌else◌, ◌==◌, ◌≤◌, List, [], ◌∷◌, length, take, drop, Option, Some, None}
+use Rattle.std.specs.Prelude.{ℕ, ◌+◌, Bool, false, not, ◌||◌, ◌&&◌, if◌then◌else◌, ◌==◌, ◌≤◌, List, [], ◌∷◌, length, take, drop, Option, Some, None}
 use Rattle.std.specs.Char.{encode_utf8}
 use Rattle.std.specs.Str.{IsCharBoundary}
 use Rattle.starlark_lexer.specs.declared.literal.Ending.{Ending}
@@ -28,6 +28,11 @@ front_of None q n = None
 unfoldable pub opening_front : List ℕ → Option (Form × ℕ)
 opening_front w =
     front_of (prefix_of (take (letters (take 3 w)) w)) (quote_front (drop (letters (take 3 w)) w)) (letters (take 3 w))
+
+-- a literal may begin with the first byte
+abbrev pub may_open : List ℕ → Bool
+may_open [] = false
+may_open (b ∷ bs) = b == 34 || b == 39 || b == 98 || b == 102 || b == 114
 
 -- a byte that is an item of any body by itself
 abbrev pub is_plain : ℕ → Bool

@@ -194,6 +194,22 @@ operator_lexeme operator.ClosingSquare = closing_square
 operator_lexeme operator.OpeningCurly = opening_curly
 operator_lexeme operator.ClosingCurly = closing_curly
 
+-- an operator that assigns
+abbrev pub is_assigning : Operator → Bool
+is_assigning operator.Equal = true
+is_assigning operator.PlusEqual = true
+is_assigning operator.MinusEqual = true
+is_assigning operator.StarEqual = true
+is_assigning operator.SlashEqual = true
+is_assigning operator.SlashSlashEqual = true
+is_assigning operator.PercentEqual = true
+is_assigning operator.AmpersandEqual = true
+is_assigning operator.PipeEqual = true
+is_assigning operator.CaretEqual = true
+is_assigning operator.LessLessEqual = true
+is_assigning operator.GreaterGreaterEqual = true
+is_assigning _ = false
+
 abbrev pub lexeme_of : Token → Lexeme
 lexeme_of token.Newline = newline
 lexeme_of token.Indent = indent

@@ -1,5 +1,5 @@
 -- The lexemes of a whole text, rule by rule.
-use Rattle.std.specs.Prelude.{◌≡◌, ◌≢◌, ◌<◌, ◌⊎◌, ℕ, suc, ◌+◌, zero, if◌then◌else◌, Bool, true, false, List, [], ◌∷◌, ◌++◌, take, drop, length, count_by}
+use Rattle.std.specs.Prelude.{◌≡◌, ◌≢◌, ◌<◌, ◌⊎◌, ℕ, ◌+◌, if◌then◌else◌, Bool, true, false, List, [], ◌∷◌, ◌++◌, take, drop, length, count_by}
 use Rattle.starlark_lexer.specs.declared.token.LexemeError.{LexemeError}
 use Rattle.starlark_lexer.specs.declared.token.LexemeError.TheVariants.{Indentation, InvalidTab, UnfinishedStringLiteral, InvalidEscapeSequence}
 use Rattle.starlark_lexer.specs.declared.literal.Form.{Form}

@@ -6,6 +6,7 @@ pub mod Widths
 pub mod Depth
 pub mod Classes
 pub mod Lex
+pub mod FirstBytes
 pub mod Scan
 pub mod Turns
 pub mod Parts
@@ -16,3 +17,5 @@ pub mod Order
 pub mod Display
 pub mod Identifier
 pub mod Joining
+pub mod Words
+pub mod Dialects

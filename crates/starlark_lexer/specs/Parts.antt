@@ -1,5 +1,5 @@
 -- What is left to a lexer, by its parts.
-use Rattle.std.specs.Prelude.{◌≡◌, ◌≤◌, ◌<◌, ◌+◌, ℕ, true, false, if◌then◌else◌, List, [], ◌∷◌, drop, length, Option, Some, None, Result, Ok, Err}
+use Rattle.std.specs.Prelude.{◌≡◌, ◌≤◌, ◌<◌, ℕ, true, false, if◌then◌else◌, List, [], ◌∷◌, drop, Option, Some, None, Result, Ok, Err}
 use Rattle.std.specs.Str.{IsCharBoundary}
 use Rattle.starlark_lexer.specs.declared.token.Token.{Token}
 use Rattle.starlark_lexer.specs.declared.scan.Mode.{Mode}
@@ -11,7 +11,7 @@ use Rattle.starlark_lexer.specs.declared.parts.Fault.TheVariants as faults
 use Rattle.starlark_lexer.specs.declared.parts.Parts.{Parts}
 use Rattle.starlark_lexer.specs.Items.{Lexed, nothing, lexeme_of, with_item, with_items, with_fault, dedents, answers}
 use Rattle.starlark_lexer.specs.Literals.{is_format}
-use Rattle.starlark_lexer.specs.Scan.{At, left_at, act, step, pass, is_joined, in_text}
+use Rattle.starlark_lexer.specs.Scan.{At, left_at, act, step, pass, is_joined}
 use Rattle.starlark_lexer.specs.Turns.{Cuts, Bounds, Keeps}
 
 abbrev pub at : Parts → At

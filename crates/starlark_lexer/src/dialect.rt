@@ -50,28 +50,17 @@ impl Dialect {
 
     /// All but f-strings.
     pub const Extended: Dialect = Dialect {
-        enable_def: true,
-        enable_lambda: true,
-        enable_load: true,
         enable_keyword_only_arguments: true,
         enable_positional_only_arguments: true,
         enable_types: DialectTypes::Enable,
-        enable_load_reexport: true,
         enable_top_level_stmt: true,
-        enable_f_strings: false,
+        ..Dialect::Standard
     };
 
     /// All that there is.
     pub const AllOptionsInternal: Dialect = Dialect {
-        enable_def: true,
-        enable_lambda: true,
-        enable_load: true,
-        enable_keyword_only_arguments: true,
-        enable_positional_only_arguments: true,
-        enable_types: DialectTypes::Enable,
-        enable_load_reexport: true,
-        enable_top_level_stmt: true,
         enable_f_strings: true,
+        ..Dialect::Extended
     };
 }
 

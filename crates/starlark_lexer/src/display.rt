@@ -44,6 +44,7 @@ impl fmt::Display for TokenInt {
     }
 }
 
+/// A keyword by its text.
 fn keyword_text(token: &Token) -> Option<&'static str>
     ensures { MatchOption result (spec.keyword_text token.now ≡ None) (λ t. spec.keyword_text token.now ≡ Some t.now) }
 {
@@ -68,6 +69,7 @@ fn keyword_text(token: &Token) -> Option<&'static str>
     Some(text)
 }
 
+/// An operator or a bracket by its text.
 fn symbol_text(token: &Token) -> Option<&'static str>
     ensures { MatchOption result (spec.symbol_text token.now ≡ None) (λ t. spec.symbol_text token.now ≡ Some t.now) }
 {
@@ -75,18 +77,6 @@ fn symbol_text(token: &Token) -> Option<&'static str>
         Token::Comma => ",",
         Token::Semicolon => ";",
         Token::Colon => ":",
-        Token::Equal => "=",
-        Token::PlusEqual => "+=",
-        Token::MinusEqual => "-=",
-        Token::StarEqual => "*=",
-        Token::SlashEqual => "/=",
-        Token::SlashSlashEqual => "//=",
-        Token::PercentEqual => "%=",
-        Token::AmpersandEqual => "&=",
-        Token::PipeEqual => "|=",
-        Token::CaretEqual => "^=",
-        Token::LessLessEqual => "<<=",
-        Token::GreaterGreaterEqual => ">>=",
         Token::EqualEqual => "==",
         Token::BangEqual => "!=",
         Token::LessThan => "<",
@@ -115,11 +105,34 @@ fn symbol_text(token: &Token) -> Option<&'static str>
         Token::ClosingSquare => "]",
         Token::OpeningCurly => "{",
         Token::ClosingCurly => "}",
+        token => return assigning_text(token),
+    };
+    Some(text)
+}
+
+/// An operator that assigns by its text.
+fn assigning_text(token: &Token) -> Option<&'static str>
+    ensures { MatchOption result (spec.assigning_text token.now ≡ None) (λ t. spec.assigning_text token.now ≡ Some t.now) }
+{
+    let text = match token {
+        Token::Equal => "=",
+        Token::PlusEqual => "+=",
+        Token::MinusEqual => "-=",
+        Token::StarEqual => "*=",
+        Token::SlashEqual => "/=",
+        Token::SlashSlashEqual => "//=",
+        Token::PercentEqual => "%=",
+        Token::AmpersandEqual => "&=",
+        Token::PipeEqual => "|=",
+        Token::CaretEqual => "^=",
+        Token::LessLessEqual => "<<=",
+        Token::GreaterGreaterEqual => ">>=",
         _ => return None,
     };
     Some(text)
 }
 
+/// A token that shows no text of its own by its kind.
 fn kind_text(token: &Token) -> &'static str
     ensures { result.now ≡ spec.kind_text token.now }
 {

@@ -1,10 +1,14 @@
 //! Laws of the definitions.
 
-ghost use Rattle.std.specs.Prelude.{◌*◌, ◌+◌, ◌≡◌, ◌≤◌, List, None, count_by, length, true, ℕ};
-ghost use Rattle.starlark_lexer.specs.Items.{Lexed};
+ghost use Rattle.std.specs.Prelude.{◌*◌, ◌+◌, ◌≡◌, ◌≤◌, List, None, count_by, length, map, true, ℕ};
+ghost use Rattle.starlark_lexer.specs.declared.dialect.TheConstants.Dialect.{AllOptionsInternal, Extended, Standard};
+ghost use Rattle.starlark_lexer.specs.declared.words.TheConstants.{KEYWORDS, OPERATORS, RESERVED};
+ghost use Rattle.starlark_lexer.specs.Dialects.{all_options, extended, standard};
+ghost use Rattle.starlark_lexer.specs.Items.{Lexed, keyword_lexeme, operator_lexeme};
 ghost use Rattle.starlark_lexer.specs.Joining.{IsClosed, IsEven, IsJoined, IsLaid, IsLevel, dedent_item, opens_level};
 ghost use Rattle.starlark_lexer.specs.Lex.{Lex, start};
 ghost use Rattle.starlark_lexer.specs.Order.{AreFirm, Covers, InOrder};
+ghost use Rattle.starlark_lexer.specs.Words.{keywords, operators, reserved};
 
 /// A text has at most one reading.
 pub fn one_reading()
@@ -42,4 +46,18 @@ pub fn nothing_left_out()
 /// An identifier and an integer have some bytes, the first of which is an ASCII byte.
 pub fn firm_items()
     ensures { (text : List ℕ) (l : Lexed) → Lex start text l → AreFirm text l.items }
+{}
+
+/// The words and operators that the lexer knows are these.
+pub fn words()
+    ensures keywords { map (λ r. (r.0.now, keyword_lexeme r.1)) KEYWORDS ≡ keywords }
+    ensures reserved { map (λ w. w.now) RESERVED ≡ reserved }
+    ensures operators { map (λ r. (r.0.now, operator_lexeme r.1)) OPERATORS ≡ operators }
+{}
+
+/// The dialects have these constructs.
+pub fn dialects()
+    ensures standard { Standard ≡ standard }
+    ensures extended { Extended ≡ extended }
+    ensures all { AllOptionsInternal ≡ all_options }
 {}

@@ -8,6 +8,7 @@ pub mod identifier;
 pub mod laws;
 pub mod lexer;
 mod literal;
+mod making;
 pub mod number;
 mod parts;
 mod scan;

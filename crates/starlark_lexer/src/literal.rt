@@ -93,10 +93,7 @@ fn is_triple(quote: FStringQuote) -> bool
 pub(crate) fn is_format(sort: Sort) -> bool
     ensures { result ≡ spec.is_format sort }
 {
-    match sort {
-        Sort::Format => true,
-        _ => false,
-    }
+    matches!(sort, Sort::Format)
 }
 
 fn begins(b: u8, bytes: &[u8], reads: &mut u64) -> bool
@@ -381,6 +378,7 @@ pub(crate) fn body(form: Form, bytes: &[u8], reads: &mut u64) -> Ending
 {
     let mut at = 0;
     while at < bytes.len() {
+        at += plain_run(&bytes[at..], reads);
         let piece = next_piece(form, &bytes[at..], reads);
         if let Some(ending) = ending_at(at, piece) {
             return ending;
@@ -390,10 +388,22 @@ pub(crate) fn body(form: Form, bytes: &[u8], reads: &mut u64) -> Ending
     Ending::Unfinished(at)
 }
 
+/// How many plain bytes stand at the front. They are counted, and one behind them.
+fn plain_run(bytes: &[u8], reads: &mut u64) -> usize
+    ensures value { result ≡ prefix_len fronts.is_plain bytes.now }
+    ensures within { result ≤ length bytes.now }
+    ensures paid { reads.new ≤ reads.old + result + 1 }
+{
+    let len = plain_len(bytes);
+    *reads = reads.saturating_add(len as u64).saturating_add(1);
+    len
+}
+
 fn is_plain(b: u8) -> bool
     ensures { result ≡ fronts.is_plain b }
 {
-    !matches!(b, b'\n' | b'\r' | b'"' | b'\'' | b'\\' | b'{' | b'}')
+    // most bytes of most bodies are such letters
+    b.is_ascii_lowercase() || !matches!(b, b'\n' | b'\r' | b'"' | b'\'' | b'\\' | b'{' | b'}')
 }
 
 fn plain_len(bytes: &[u8]) -> usize
@@ -539,10 +549,21 @@ fn quote_front(bytes: &[u8], reads: &mut u64) -> Option<FStringQuote>
     }
 }
 
+/// Whether a literal may begin with the first byte.
+fn may_open(bytes: &[u8]) -> bool
+    ensures { result ≡ fronts.may_open bytes.now }
+{
+    !bytes.is_empty() && matches!(bytes[0], b'"' | b'\'' | b'b' | b'f' | b'r')
+}
+
 /// The longest prefix and quotes at the front, and how many bytes they have.
 pub(crate) fn opening(bytes: &[u8], reads: &mut u64) -> Option<(Form, usize)>
     ensures value { result ≡ fronts.opening_front bytes.now }
 {
+    look(reads);
+    if !may_open(bytes) {
+        return None;
+    }
     let len = letters(front(bytes, 3), reads);
     let (sort, raw) = prefix(&bytes[..len])?;
     let quote = quote_front(&bytes[len..], reads)?;

@@ -1,21 +1,20 @@
 //! A lexer's parts, and one call of it.
 
 ghost use Rattle.std.specs.Prelude.{◌≡◌, ◌<◌, ◌≤◌, ◌+◌, ◌*◌, ◌^◌, length, IfOk, true, false, Some};
-ghost use Rattle.starlark_lexer.specs.Items.{lexeme_of, answers, keyword_lexeme, operator_lexeme};
-ghost use Rattle.starlark_lexer.specs.Lex.{literal_lexeme};
-ghost use Rattle.starlark_lexer.specs.Literals.{value, is_bytes};
+ghost use Rattle.starlark_lexer.specs.Items.{lexeme_of, answers, with_fault};
+ghost use Rattle.starlark_lexer.specs.Literals.{is_bytes};
 ghost use Rattle.starlark_lexer.specs.Scan.{lexeme_from, in_text};
-ghost use Rattle.starlark_lexer.specs.Turns.{IsLexical, Slices};
-ghost use Rattle.starlark_lexer.specs.declared.scan.Turn.TheVariants.{Gives, Enter, Fits, Deeper};
+ghost use Rattle.starlark_lexer.specs.Turns.{IsLexical};
+ghost use Rattle.starlark_lexer.specs.declared.scan.Turn.TheVariants.{End, Gives, Enter, Fits, Deeper, Leave};
 ghost use Rattle.starlark_lexer.specs.declared.scan.Mode.TheVariants.{Inside};
-ghost use Rattle.starlark_lexer.specs.Parts.{left, Begins, Hands, Spans, IsWhole, IsReady, Comes, Stands};
+ghost use Rattle.starlark_lexer.specs.Parts.{left, Begins, Hands, Spans, IsStretch, IsWhole, IsReady, Comes, Stands};
 
-use crate::literal::{Form, Sort, bytes_value, text_value};
+use crate::literal::Form;
+use crate::making::token;
 use crate::scan::{Kind, Mode, State, Turn, gap, here, line_turn, text_here};
 use crate::state::{after, begin_of, body_of, field_of, in_text, is_joined, pop, turned};
-use crate::token::{FStringQuote, LexemeError, Token, TokenInt};
-use crate::words::{Keyword, Operator};
-use std::alloc::{AllocError, Global};
+use crate::token::{LexemeError, Token};
+use std::alloc::Global;
 
 /// Why nothing more is handed out.
 #[derive(Clone, Copy, Debug)]
@@ -47,114 +46,6 @@ pub(crate) struct Parts<'a> {
     pub reads: u64,
 }
 
-fn keyword_token(keyword: Keyword) -> Token
-    ensures { lexeme_of result ≡ keyword_lexeme keyword }
-{
-    match keyword {
-        Keyword::And => Token::And,
-        Keyword::Break => Token::Break,
-        Keyword::Continue => Token::Continue,
-        Keyword::Def => Token::Def,
-        Keyword::Elif => Token::Elif,
-        Keyword::Else => Token::Else,
-        Keyword::For => Token::For,
-        Keyword::If => Token::If,
-        Keyword::In => Token::In,
-        Keyword::Lambda => Token::Lambda,
-        Keyword::Load => Token::Load,
-        Keyword::Not => Token::Not,
-        Keyword::Or => Token::Or,
-        Keyword::Pass => Token::Pass,
-        Keyword::Return => Token::Return,
-    }
-}
-
-fn operator_token(operator: Operator) -> Token
-    ensures { lexeme_of result ≡ operator_lexeme operator }
-{
-    match operator {
-        Operator::Comma => Token::Comma,
-        Operator::Semicolon => Token::Semicolon,
-        Operator::Colon => Token::Colon,
-        Operator::Equal => Token::Equal,
-        Operator::PlusEqual => Token::PlusEqual,
-        Operator::MinusEqual => Token::MinusEqual,
-        Operator::StarEqual => Token::StarEqual,
-        Operator::SlashEqual => Token::SlashEqual,
-        Operator::SlashSlashEqual => Token::SlashSlashEqual,
-        Operator::PercentEqual => Token::PercentEqual,
-        Operator::AmpersandEqual => Token::AmpersandEqual,
-        Operator::PipeEqual => Token::PipeEqual,
-        Operator::CaretEqual => Token::CaretEqual,
-        Operator::LessLessEqual => Token::LessLessEqual,
-        Operator::GreaterGreaterEqual => Token::GreaterGreaterEqual,
-        Operator::EqualEqual => Token::EqualEqual,
-        Operator::BangEqual => Token::BangEqual,
-        Operator::LessThan => Token::LessThan,
-        Operator::GreaterThan => Token::GreaterThan,
-        Operator::LessEqual => Token::LessEqual,
-        Operator::GreaterEqual => Token::GreaterEqual,
-        Operator::Plus => Token::Plus,
-        Operator::Minus => Token::Minus,
-        Operator::Star => Token::Star,
-        Operator::StarStar => Token::StarStar,
-        Operator::Slash => Token::Slash,
-        Operator::SlashSlash => Token::SlashSlash,
-        Operator::Percent => Token::Percent,
-        Operator::Ampersand => Token::Ampersand,
-        Operator::Pipe => Token::Pipe,
-        Operator::Caret => Token::Caret,
-        Operator::LessLess => Token::LessLess,
-        Operator::GreaterGreater => Token::GreaterGreater,
-        Operator::Tilde => Token::Tilde,
-        Operator::Dot => Token::Dot,
-        Operator::Ellipsis => Token::Ellipsis,
-        Operator::MinusGreater => Token::MinusGreater,
-        Operator::OpeningRound => Token::OpeningRound,
-        Operator::ClosingRound => Token::ClosingRound,
-        Operator::OpeningSquare => Token::OpeningSquare,
-        Operator::ClosingSquare => Token::ClosingSquare,
-        Operator::OpeningCurly => Token::OpeningCurly,
-        Operator::ClosingCurly => Token::ClosingCurly,
-    }
-}
-
-/// The lexeme of a literal that has such a body.
-fn literal(alloc: Global, form: Form, body: &str) -> Result<Token, AllocError>
-    ensures { IfOk result (λ t. lexeme_of t ≡ literal_lexeme form.sort (value form body.now)) }
-{
-    match form.sort {
-        Sort::Text => Ok(Token::String(text_value(alloc, form, body)?)),
-        Sort::Bytes => Ok(Token::Bytes(bytes_value(alloc, form, body)?)),
-        Sort::Format => Ok(Token::FStringText(text_value(alloc, form, body)?)),
-    }
-}
-
-/// The token of a lexeme with that text.
-fn token(alloc: Global, kind: Kind, text: &str) -> Result<Token, AllocError>
-    requires { Slices kind text.now }
-    ensures { IfOk result (λ t. lexeme_of t ≡ lexeme_from kind text.now) }
-{
-    let token = match kind {
-        Kind::Newline => Token::Newline,
-        Kind::Comment => Token::Comment(String::from_str(alloc, &text[1..])?),
-        Kind::Word => Token::Identifier(String::from_str(alloc, text)?),
-        Kind::Keyword(keyword) => keyword_token(keyword),
-        Kind::Int(from, radix) => Token::Int(TokenInt::of_digits(
-            alloc,
-            false,
-            &text[from..],
-            radix,
-        )?),
-        Kind::Float => Token::Float(String::from_str(alloc, text)?),
-        Kind::Operator(operator) => operator_token(operator),
-        Kind::Literal(form, from, len) => literal(alloc, form, &text[from..from + len])?,
-        Kind::Text(form) => Token::FStringText(text_value(alloc, form, text)?),
-        Kind::Bang => Token::FStringBang,
-    };
-    Ok(token)
-}
-
 /// Hands out what comes, and goes on behind it.
 fn hand_out(parts: &mut Parts, turn: Turn) -> Answer
     requires whole { IsWhole parts.old }
@@ -168,35 +59,17 @@ fn hand_out(parts: &mut Parts, turn: Turn) -> Answer
 {
     let place = parts.state.place;
     match turn {
-        Turn::End(_) => {
-            let end = parts.text.as_bytes().len();
-            parts.state.place = end;
-            parts.margin = end;
-            parts.pending = parts.widths.len();
-            parts.over = true;
-            Ok((end, Token::Newline, end))
-        }
+        Turn::End(gap) => finish(parts, turn, gap),
         Turn::Tab(_) => {
-            parts.over = true;
-            Err(Fault::Lexeme(
-                parts.state.line_begin,
-                LexemeError::InvalidTab,
-                parts.state.line_end,
-            ))
+            let (begin, end) = (parts.state.line_begin, parts.state.line_end);
+            refuse(parts, begin, LexemeError::InvalidTab, end)
         }
-        Turn::Fault(begin, error, len) => {
-            parts.over = true;
-            Err(Fault::Lexeme(place + begin, error, place + begin + len))
-        }
+        Turn::Fault(begin, error, len) => refuse(parts, place + begin, error, place + begin + len),
         Turn::Gives(begin, kind, len, next, fresh) => give(
             parts, turn, begin, kind, len, next, fresh,
         ),
         Turn::Enter(form, len) => enter(parts, turn, form, len),
-        Turn::Leave(len) => {
-            let below = pop(&mut parts.outer);
-            parts.state = turned(parts.state, len, below);
-            Ok((place, Token::FStringEnd, place + len))
-        }
+        Turn::Leave(len) => leave(parts, turn, len),
         Turn::Open => {
             parts.state = turned(parts.state, 1, field_of(parts.state.mode));
             Ok((place, Token::FStringExprStart, place + 1))
@@ -206,16 +79,51 @@ fn hand_out(parts: &mut Parts, turn: Turn) -> Answer
             Ok((place, Token::FStringExprEnd, place + 1))
         }
         Turn::Unfinished(len) => {
-            parts.over = true;
-            Err(Fault::Lexeme(
-                begin_of(parts.state.mode),
+            let begin = begin_of(parts.state.mode);
+            refuse(
+                parts,
+                begin,
                 LexemeError::UnfinishedStringLiteral,
                 place + len,
-            ))
+            )
         }
         Turn::Deeper(_, _) => unreachable!(),
         Turn::Fits(_, _) => unreachable!(),
     }
+}
+
+/// Hands out the closing line end at the text's end.
+fn finish(parts: &mut Parts, turn: Turn, gap: usize) -> Answer
+    requires whole { IsWhole parts.old }
+    requires ready { IsReady parts.old }
+    requires comes { Comes parts.old turn }
+    requires is { turn ≡ End gap }
+    ensures whole { IsWhole parts.new }
+    ensures text { parts.new.text.now ≡ parts.old.text.now }
+    ensures gives { Hands (left parts.old) (Some result) (left parts.new) }
+    ensures spans { Spans parts.old.text.now (Some result) }
+{
+    let end = parts.text.as_bytes().len();
+    parts.state.place = end;
+    parts.margin = end;
+    parts.pending = parts.widths.len();
+    parts.over = true;
+    Ok((end, Token::Newline, end))
+}
+
+/// Hands out the fault that is left.
+fn refuse(parts: &mut Parts, begin: usize, error: LexemeError, end: usize) -> Answer
+    requires whole { IsWhole parts.old }
+    requires ready { IsReady parts.old }
+    requires is { left parts.old ≡ with_fault begin error end }
+    requires stretch { IsStretch parts.old.text.now begin end }
+    ensures whole { IsWhole parts.new }
+    ensures text { parts.new.text.now ≡ parts.old.text.now }
+    ensures gives { Hands (left parts.old) (Some result) (left parts.new) }
+    ensures spans { Spans parts.old.text.now (Some result) }
+{
+    parts.over = true;
+    Err(Fault::Lexeme(begin, error, end))
 }
 
 /// Hands out a lexeme.
@@ -270,6 +178,23 @@ fn enter(parts: &mut Parts, turn: Turn, form: Form, len: usize) -> Answer
     }
     parts.state = turned(parts.state, len, Mode::Inside(place, form));
     Ok((place, Token::FStringStart(form.quote), place + len))
+}
+
+/// Hands out the end of an f-string.
+fn leave(parts: &mut Parts, turn: Turn, len: usize) -> Answer
+    requires whole { IsWhole parts.old }
+    requires ready { IsReady parts.old }
+    requires comes { Comes parts.old turn }
+    requires is { turn ≡ Leave len }
+    ensures whole { IsWhole parts.new }
+    ensures text { parts.new.text.now ≡ parts.old.text.now }
+    ensures gives { Hands (left parts.old) (Some result) (left parts.new) }
+    ensures spans { Spans parts.old.text.now (Some result) }
+{
+    let place = parts.state.place;
+    let below = pop(&mut parts.outer);
+    parts.state = turned(parts.state, len, below);
+    Ok((place, Token::FStringEnd, place + len))
 }
 
 /// What the line that begins here comes with.

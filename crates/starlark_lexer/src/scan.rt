@@ -1,6 +1,6 @@
 //! Finds the next lexeme of a text, without memory.
 
-ghost use Rattle.std.specs.Prelude.{Some, None, ◌≡◌, ◌<◌, ◌≤◌, ◌+◌, ◌-◌, ◌*◌, ◌^◌, length, drop, take, slice_index, slice_range, map, true, false, count_by};
+ghost use Rattle.std.specs.Prelude.{Some, None, [], ◌∷◌, IfSome, ◌≡◌, ◌<◌, ◌≤◌, ◌+◌, ◌-◌, ◌*◌, ◌^◌, length, drop, take, slice_index, slice_range, map, true, false, count_by};
 ghost use Rattle.std.specs.Str.{bytes_eq};
 ghost use Rattle.std.specs.Char.{is_ascii_digit};
 ghost use Rattle.std.specs.List.{list_all, list_any, prefix_len};
@@ -11,7 +11,9 @@ ghost use Rattle.starlark_lexer.specs.Literals as literals;
 
 use crate::literal::{Ending, Form, body, is_format, opening, quotes};
 use crate::token::LexemeError;
-use crate::words::{KEYWORDS, Keyword, OPERATORS, Operator, RESERVED};
+use crate::words::{
+    KEYWORDS, Keyword, OPERATORS, Operator, RESERVED, alone, is_second, may_be_fixed,
+};
 
 #[derive(Clone, Copy, Debug)]
 pub(crate) enum Class {
@@ -106,7 +108,7 @@ fn is_in(class: Class, b: u8) -> bool
 {
     match class {
         Class::Blank => b == b' ' || b == b'\t' || b == b'\r',
-        Class::Word => b.is_ascii_alphanumeric() || b == b'_',
+        Class::Word => b.is_ascii_alphabetic() || b == b'_' || b.is_ascii_digit(),
         Class::Digit => b.is_ascii_digit(),
         Class::Based(radix) => (b as char).is_digit(radix),
         Class::Continuation => 128 <= b && b < 192,
@@ -122,13 +124,10 @@ fn run(class: Class, bytes: &[u8], reads: &mut u64) -> usize
     ensures moves { 0 < length bytes.now → spec.is_in class (slice_index bytes.now 0) ≡ true → 0 < result }
 {
     let mut end = 0;
-    while end < bytes.len() {
-        look(reads, 1);
-        if !is_in(class, bytes[end]) {
-            return end;
-        }
+    while end < bytes.len() && is_in(class, bytes[end]) {
         end += 1;
     }
+    look(reads, if end < bytes.len() { end + 1 } else { end });
     end
 }
 
@@ -173,6 +172,9 @@ pub(crate) fn keyword_of(word: &[u8]) -> Option<Keyword>
 fn word(word: &[u8]) -> Found
     ensures { result ≡ spec.word word.now }
 {
+    if !may_be_fixed(word) {
+        return Found::Kind(Kind::Word);
+    }
     if let Some(keyword) = keyword_of(word) {
         return Found::Kind(Kind::Keyword(keyword));
     }
@@ -182,14 +184,9 @@ fn word(word: &[u8]) -> Found
     Found::Kind(Kind::Word)
 }
 
-fn operator_in(
-    mut table: &[(&[u8], Operator)],
-    bytes: &[u8],
-    reads: &mut u64,
-) -> Option<(Operator, usize)>
+fn operator_in(mut table: &[(&[u8], Operator)], bytes: &[u8]) -> Option<(Operator, usize)>
     ensures { result ≡ spec.first_row (classes.texts_of table.entry.now) bytes.now }
 {
-    look(reads, 3);
     while let [row, rest @ ..] = table {
         if bytes.starts_with(row.0) {
             return Some((row.1, row.0.len()));
@@ -199,11 +196,26 @@ fn operator_in(
     None
 }
 
+/// The operator of one byte at the front, where the byte behind it stands second in none.
+fn single(bytes: &[u8]) -> Option<Operator>
+    ensures { IfSome result (λ o. spec.first_row classes.operators bytes.now ≡ Some (o, 1)) }
+{
+    match bytes {
+        [b] => alone(*b),
+        [b, next, ..] if !is_second(*next) => alone(*b),
+        _ => None,
+    }
+}
+
 /// The operator at the front, or the fault of a character that begins no lexeme.
 fn operator(bytes: &[u8], reads: &mut u64) -> (Found, usize)
     ensures { result ≡ spec.operator (spec.first_row classes.operators bytes.now) }
 {
-    match operator_in(&OPERATORS, bytes, reads) {
+    look(reads, 3);
+    if let Some(operator) = single(bytes) {
+        return (Found::Kind(Kind::Operator(operator)), 1);
+    }
+    match operator_in(&OPERATORS, bytes) {
         Some((operator, len)) => (Found::Kind(Kind::Operator(operator)), len),
         None => (Found::Fault(LexemeError::InvalidInput), 1),
     }

@@ -61,16 +61,23 @@ pub(crate) fn after(
                 state.line_end = place + begin + len;
             }
         }
-        Mode::Inside(_, _) => {}
-        Mode::Field(begin, form, depth) => {
-            state.mode = Mode::Field(
-                begin,
-                form,
-                (depth + opens(kind)).saturating_sub(closes(kind)),
-            );
-        }
+        mode => state.mode = mode_after(mode, kind),
     }
     state
+}
+
+/// The mode behind a lexeme.
+fn mode_after(mode: Mode, kind: Kind) -> Mode
+    requires { depth_of mode < 2 ^ 63 }
+    ensures { result ≡ spec.mode_after mode kind }
+{
+    match mode {
+        Mode::Field(begin, form, depth) => {
+            let depth = (depth + opens(kind)).saturating_sub(closes(kind));
+            Mode::Field(begin, form, depth)
+        }
+        mode => mode,
+    }
 }
 
 fn is_newline(kind: Kind) -> bool

@@ -1,5 +1,9 @@
 //! The words and operators whose texts are fixed.
 
+ghost use Rattle.std.specs.Prelude.{[], ◌∷◌, ◌≡◌, IfSome, Some};
+ghost use Rattle.starlark_lexer.specs.Classes as classes;
+ghost use Rattle.starlark_lexer.specs.FirstBytes as spec;
+
 /// Words with a meaning of their own.
 #[derive(Clone, Copy, Debug)]
 pub(crate) enum Keyword {
@@ -151,3 +155,72 @@ pub(crate) const OPERATORS: [(&[u8], Operator); 43] = [
     (b"{", Operator::OpeningCurly),
     (b"}", Operator::ClosingCurly),
 ];
+
+/// The operator of one byte that a byte is.
+#[tactic(auto, unfolding(crate::specs::Classes::operator_of))]
+pub(crate) fn alone(b: u8) -> Option<Operator>
+    ensures { IfSome result (λ o. classes.operator_of (b ∷ []) ≡ Some o) }
+{
+    match b {
+        b',' => Some(Operator::Comma),
+        b';' => Some(Operator::Semicolon),
+        b':' => Some(Operator::Colon),
+        b'=' => Some(Operator::Equal),
+        b'<' => Some(Operator::LessThan),
+        b'>' => Some(Operator::GreaterThan),
+        b'+' => Some(Operator::Plus),
+        b'-' => Some(Operator::Minus),
+        b'*' => Some(Operator::Star),
+        b'/' => Some(Operator::Slash),
+        b'%' => Some(Operator::Percent),
+        b'&' => Some(Operator::Ampersand),
+        b'|' => Some(Operator::Pipe),
+        b'^' => Some(Operator::Caret),
+        b'~' => Some(Operator::Tilde),
+        b'.' => Some(Operator::Dot),
+        b'(' => Some(Operator::OpeningRound),
+        b')' => Some(Operator::ClosingRound),
+        b'[' => Some(Operator::OpeningSquare),
+        b']' => Some(Operator::ClosingSquare),
+        b'{' => Some(Operator::OpeningCurly),
+        b'}' => Some(Operator::ClosingCurly),
+        _ => None,
+    }
+}
+
+/// Whether a byte stands second in an operator.
+pub(crate) fn is_second(b: u8) -> bool
+    ensures { result ≡ spec.is_second b }
+{
+    matches!(b, b'=' | b'*' | b'/' | b'<' | b'>' | b'.')
+}
+
+/// Whether a keyword or a reserved word may begin with a byte and have so many bytes.
+fn may_stand(b: u8, len: usize) -> bool
+    ensures { result ≡ spec.may_stand b len }
+{
+    match b {
+        b'a' => len == 2 || len == 3,
+        b'c' => len == 5 || len == 8,
+        b'e' => len == 4 || len == 6,
+        b'f' => len == 3 || len == 4 || len == 7,
+        b'i' => len == 2 || len == 6,
+        b'l' => len == 4 || len == 6,
+        b'n' => len == 3 || len == 8,
+        b'r' => len == 5 || len == 6,
+        b'w' => len == 4 || len == 5,
+        b'd' | b't' => len == 3,
+        b'b' | b'y' => len == 5,
+        b'g' => len == 6,
+        b'o' => len == 2,
+        b'p' => len == 4,
+        _ => false,
+    }
+}
+
+/// Whether a word may be a keyword or a reserved word, by its first byte and its length.
+pub(crate) fn may_be_fixed(word: &[u8]) -> bool
+    ensures { result ≡ spec.may_be_fixed word.now }
+{
+    !word.is_empty() && may_stand(word[0], word.len())
+}

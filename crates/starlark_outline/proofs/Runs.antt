@@ -5,14 +5,16 @@ use Rattle.std.proofs.lemmas.List.{append-nil}
 use Rattle.std.proofs.lemmas.Bool.{cases_Bool}
 use Rattle.std.specs.Io.KnownBytes.{Appends}
 use Rattle.starlark_outline.specs.Device.{AppendsFront}
-use Rattle.starlark_outline.specs.Script.{Front, Command, nothing, no_command, asking, inserting, outlining, front, after_line, with_text, first_line, behind, command_of, Does, Replies}
+use Rattle.starlark_outline.specs.Script.{Front, Command, nothing, no_command, asking, inserting, outlining, front, after_line, with_text, first_line, behind, command_of, Does, Replies, SoFar}
 use Rattle.starlark_outline.specs.Script.Replies.{ends, breaks, answers}
+use Rattle.starlark_outline.specs.Script.SoFar.{begins, goes_on}
 use Rattle.starlark_outline.specs.Script.Does.{wanting, outlined}
 use Rattle.starlark_outline.specs.Reading.{IsAsked, IsRequest}
+use Rattle.starlark_outline.specs.Coming.{Held, coming}
 use Rattle.starlark_outline.specs.Kept.{joined}
 use Rattle.starlark_outline.specs.Parts.{HasOutline}
 use Rattle.starlark_outline.specs.Printed.{outline_lines}
-use Rattle.starlark_outline.specs.Engine.{Answers, Wrote, WroteFront}
+use Rattle.starlark_outline.specs.Engine.{Answers, Wrote, WroteFront, WroteSoFar}
 use Rattle.starlark_lexer.specs.declared.dialect.Dialect.{Dialect}
 use Rattle.starlark_outline.specs.declared.fault.End.{End}
 use Rattle.starlark_outline.specs.declared.fault.End.TheVariants as how
@@ -97,14 +99,21 @@ answered_below limit (suc n) dialect parts script h l =
 pub answered : (limit : ℕ) (dialect : Dialect) (parts : List (List ℕ)) (script : List ℕ) → HasOutline dialect (joined parts) → Answered limit dialect parts script
 answered limit dialect parts script h = answered_below limit (length script) dialect parts script h (omega arith)
 
--- A run so far: what was written, and then any replies to what is to come, are replies to the script.
+-- Replies so far and then any replies to the rest are replies to the script.
+then_replies : (limit : ℕ) (dialect : Dialect) (parts : List (List ℕ)) (script : List ℕ) (left : List (List ℕ)) (so_far rest replies : List ℕ) (end : End)
+    → SoFar limit dialect parts script so_far left rest → Replies limit dialect left rest replies end → Replies limit dialect parts script (so_far ++ replies) end
+then_replies limit dialect parts script left so_far rest replies end begins m = m
+then_replies limit dialect parts script left so_far rest replies end (goes_on {before} {after} {rest = all} {next} {replies = first} {reply} {c} d e f) m =
+    rw append_assoc (then_replies limit dialect parts script before first all (reply ++ replies) end d (answers before after all next reply replies c end e f m))
+
+-- A run so far: what was written are whole replies to commands at the front of the script.
 abbrev pub Going : ℕ → Dialect → Option (List ℕ) → Option (List ℕ) → List (List ℕ) → Option (List ℕ) → Option (List ℕ) → Type 0
 Going limit dialect None before parts c t = Unit {0}
 Going limit dialect (Some script) None parts c t = Unit {0}
 Going limit dialect (Some script) (Some before) parts None t = ⊥
 Going limit dialect (Some script) (Some before) parts (Some xs) None = ⊥
 Going limit dialect (Some script) (Some before) parts (Some xs) (Some ts) =
-    (so_far : List ℕ) × (ts ≡ before ++ so_far) × ((replies : List ℕ) (end : End) → Replies limit dialect parts xs replies end → Replies limit dialect [] script (so_far ++ replies) end)
+    (so_far : List ℕ) × (ts ≡ before ++ so_far) × SoFar limit dialect [] script so_far parts xs
 
 -- One command goes on with the run.
 pub going_on : (limit : ℕ) (dialect : Dialect) (s b : Option (List ℕ)) (parts left : List (List ℕ)) (c new t u : Option (List ℕ)) (a : Asked) (reply : List ℕ)
@@ -119,7 +128,7 @@ going_on limit dialect (Some script) (Some before) parts left (Some xs) new (Som
     rw x.3 (
       go.0 ++ reply,
       w ∙ ap (λ z. z ++ reply) go.1 ∙ append_assoc before go.0 reply,
-      λ replies end m. rw append_assoc (go.2 (reply ++ replies) end (answers parts left xs x.1 reply replies x.0 end x.2 x.4 m)),
+      goes_on go.2 x.2 x.4,
     )
 
 -- The script ends.
@@ -132,7 +141,7 @@ going_whole limit dialect (Some script) (Some before) parts (Some xs) new None g
 going_whole limit dialect (Some script) (Some before) parts (Some xs) new (Some ts) go r =
     record {
       replies = go.0 ++ [];
-      given = go.2 [] how.Whole (ends parts xs r);
+      given = then_replies limit dialect [] script parts go.0 xs [] how.Whole go.2 (ends parts xs r);
       written = ap Some (go.1 ∙ ap (λ z. before ++ z) (sym (append-nil go.0)));
     }
 
@@ -147,7 +156,7 @@ going_bad limit dialect (Some script) (Some before) parts (Some xs) new (Some ts
 going_bad limit dialect (Some script) (Some before) parts (Some xs) new (Some ts) (Some us) go r w =
     record {
       replies = go.0 ++ codes "bad\n";
-      given = go.2 (codes "bad\n") how.Bad (breaks parts xs r);
+      given = then_replies limit dialect [] script parts go.0 xs (codes "bad\n") how.Bad go.2 (breaks parts xs r);
       written = ap Some (w ∙ ap (λ z. z ++ codes "bad\n") go.1 ∙ append_assoc before go.0 (codes "bad\n"));
     }
 
@@ -159,7 +168,22 @@ going_unread limit dialect (Some script) None parts c t h go = tt
 going_unread limit dialect (Some script) (Some before) parts None t h go = absurd go
 going_unread limit dialect (Some script) (Some before) parts (Some xs) None h go = absurd go
 going_unread limit dialect (Some script) (Some before) parts (Some xs) (Some ts) h go =
-    let m = answered limit dialect parts xs h in record { front = go.0; rest = m.0; end = m.1; given = go.2 m.0 m.1 m.2; written = ap Some go.1 }
+    let m = answered limit dialect parts xs h in record { front = go.0; rest = m.0; end = m.1; given = then_replies limit dialect [] script parts go.0 xs m.0 m.1 go.2 m.2; written = ap Some go.1 }
+
+-- What was written by then are whole replies.
+pub going_so_far : (limit : ℕ) (dialect : Dialect) (s b : Option (List ℕ)) (parts : List (List ℕ)) (c t : Option (List ℕ)) → Going limit dialect s b parts c t → WroteSoFar limit dialect s b t
+going_so_far limit dialect None b parts c t go = tt
+going_so_far limit dialect (Some script) None parts c t go = tt
+going_so_far limit dialect (Some script) (Some before) parts None t go = absurd go
+going_so_far limit dialect (Some script) (Some before) parts (Some xs) None go = absurd go
+going_so_far limit dialect (Some script) (Some before) parts (Some xs) (Some ts) go =
+    record { replies = go.0; parts = parts; rest = xs; given = go.2; written = ap Some go.1 }
+
+-- Nothing was written yet.
+pub going_first : (limit : ℕ) (dialect : Dialect) (s b : Option (List ℕ)) (parts : List (List ℕ)) (held : Held) → parts ≡ [] → held.bytes ≡ [] → Going limit dialect s b parts (coming held s) b
+going_first limit dialect None b parts held e f = tt
+going_first limit dialect (Some script) None parts held e f = tt
+going_first limit dialect (Some script) (Some before) parts held e f = rw (e, f) ([], sym (append-nil before), begins)
 
 -- A front of some bytes was written, which go on to replies.
 stopped : (limit : ℕ) (dialect : Dialect) (script before so_far ts reply more : List ℕ) (u : Option (List ℕ)) (end : End) → ts ≡ before ++ so_far
@@ -186,7 +210,7 @@ going_unwritten limit dialect (Some script) (Some before) parts left (Some xs) n
 going_unwritten limit dialect (Some script) (Some before) parts left (Some xs) new (Some ts) u a reply h go r d w =
     let x = does limit dialect parts left xs reply new a r d in
     let m = answered limit dialect left x.1 h in
-    stopped limit dialect script before go.0 ts reply m.0 u m.1 go.1 (go.2 (reply ++ m.0) m.1 (answers parts left xs x.1 reply m.0 x.0 m.1 x.2 x.4 m.2)) w
+    stopped limit dialect script before go.0 ts reply m.0 u m.1 go.1 (then_replies limit dialect [] script parts go.0 xs (reply ++ m.0) m.1 go.2 (answers parts left xs x.1 reply m.0 x.0 m.1 x.2 x.4 m.2)) w
 
 pub going_unbroken : (limit : ℕ) (dialect : Dialect) (s b : Option (List ℕ)) (parts : List (List ℕ)) (c new t u : Option (List ℕ))
     → Going limit dialect s b parts c t → IsRequest c new requests.Bad → AppendsFront t u (codes "bad\n") → WroteFront limit dialect s b u
@@ -195,7 +219,7 @@ going_unbroken limit dialect (Some script) None parts c new t u go r w = tt
 going_unbroken limit dialect (Some script) (Some before) parts None new t u go r w = absurd go
 going_unbroken limit dialect (Some script) (Some before) parts (Some xs) new None u go r w = absurd go
 going_unbroken limit dialect (Some script) (Some before) parts (Some xs) new (Some ts) u go r w =
-    stopped limit dialect script before go.0 ts (codes "bad\n") [] u how.Bad go.1 (rw (append-nil (codes "bad\n")) (go.2 (codes "bad\n") how.Bad (breaks parts xs r))) w
+    stopped limit dialect script before go.0 ts (codes "bad\n") [] u how.Bad go.1 (rw (append-nil (codes "bad\n")) (then_replies limit dialect [] script parts go.0 xs (codes "bad\n") how.Bad go.2 (breaks parts xs r))) w
 
 pub nothing_written : (limit : ℕ) (dialect : Dialect) (s b : Option (List ℕ)) → HasOutline dialect [] → WroteFront limit dialect s b b
 nothing_written limit dialect None b h = tt

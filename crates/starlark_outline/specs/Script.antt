@@ -131,3 +131,9 @@ pub data Replies (limit : ℕ) (dialect : Dialect) : List (List ℕ) → List �
   -- a command is answered, and the rest of the script over the parts that it leaves
   answers : (parts left : List (List ℕ)) (script rest reply replies : List ℕ) (c : Command) (end : End) → front script ≡ asking c rest
       → Does limit dialect parts c reply left → Replies limit dialect left rest replies end → Replies limit dialect parts script (reply ++ replies) end
+
+-- These replies may be given to commands at the front of a script, one after the other, over these parts; they leave the parts and the rest of the script.
+pub data SoFar (limit : ℕ) (dialect : Dialect) (parts : List (List ℕ)) (script : List ℕ) : List ℕ → List (List ℕ) → List ℕ → Type 0 where
+  begins : SoFar limit dialect parts script [] parts script
+  goes_on : {before after : List (List ℕ)} {rest next replies reply : List ℕ} {c : Command} → SoFar limit dialect parts script replies before rest → front rest ≡ asking c next
+      → Does limit dialect before c reply after → SoFar limit dialect parts script (replies ++ reply) after next

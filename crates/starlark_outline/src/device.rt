@@ -31,8 +31,8 @@ pub trait Source: Read {
 pub trait Sink: Write {
     ghost has_failed: { Self → Bool };
 
-    // whether the last call of `put` took no byte of some
-    ghost has_stalled: { Self → Bool };
+    // how many calls of `put` took no byte of some
+    ghost stalls: { Self → ℕ };
 
     /// Whether a call has answered an `Err`.
     fn failed(&self) -> bool
@@ -43,7 +43,7 @@ pub trait Sink: Write {
         ensures bound { WritesAtMost result buf.now }
         ensures bytes { WriteAppends (Self.contents self.old) (Self.contents self.new) result buf.now }
         ensures fails { FailsWith (has_failed self.old) (has_failed self.new) result }
-        ensures stalls { StallsWith (has_stalled self.new) result buf.now };
+        ensures stalls { StallsWith (stalls self.old) (stalls self.new) result buf.now };
 }
 
 /// A reader or a writer that is watched: each call is passed on, and the first that answers an `Err` is kept in mind for
@@ -52,7 +52,7 @@ pub trait Sink: Write {
 pub struct Watched<T> {
     inner: T,
     failed: bool,
-    stalled: bool,
+    stalls: u64,
     reads: u64,
 }
 
@@ -61,12 +61,13 @@ impl<T> Watched<T> {
     pub fn new(inner: T) -> Watched<T>
         ensures inner { result.inner ≡ inner }
         ensures failed { result.failed ≡ false }
+        ensures stalls { result.stalls ≡ 0 }
         ensures reads { result.reads ≡ 0 }
     {
         Watched {
             inner,
             failed: false,
-            stalled: false,
+            stalls: 0,
             reads: 0,
         }
     }
@@ -78,10 +79,24 @@ impl<T> Watched<T> {
         let Watched {
             inner,
             failed: _,
-            stalled: _,
+            stalls: _,
             reads: _,
         } = self;
         inner
+    }
+
+    // keeps in mind whether a call failed, and hands on its answer
+    fn noted<A>(&mut self, answer: io::Result<A>) -> io::Result<A>
+        ensures answer { result ≡ answer }
+        ensures fails { FailsWith self.old.failed self.new.failed answer }
+        ensures inner { self.new.inner ≡ self.old.inner }
+        ensures stalls { self.new.stalls ≡ self.old.stalls }
+        ensures reads { self.new.reads ≡ self.old.reads }
+    {
+        if answer.is_err() {
+            self.failed = true;
+        }
+        answer
     }
 }
 
@@ -108,13 +123,8 @@ impl<R: Read> Source for Watched<R> {
 
     fn pull(&mut self, buf: &mut [u8]) -> io::Result<usize> {
         self.reads = self.reads.saturating_add(1);
-        match self.inner.read(buf) {
-            Ok(n) => Ok(n),
-            Err(e) => {
-                self.failed = true;
-                Err(e)
-            }
-        }
+        let answer = self.inner.read(buf);
+        self.noted(answer)
     }
 }
 
@@ -125,7 +135,7 @@ impl<W: Write> Write for Watched<W> {
         ensures bound { WritesAtMost result buf.now }
         ensures bytes { WriteAppends (W.contents self.old.inner) (W.contents self.new.inner) result buf.now }
         ensures fails { FailsWith self.old.failed self.new.failed result }
-        ensures stalls { StallsWith self.new.stalled result buf.now }
+        ensures stalls { StallsWith self.old.stalls self.new.stalls result buf.now }
     {
         self.put(buf)
     }
@@ -134,35 +144,25 @@ impl<W: Write> Write for Watched<W> {
         ensures bytes { Keeps (W.contents self.old.inner) (W.contents self.new.inner) }
         ensures fails { FailsWith self.old.failed self.new.failed result }
     {
-        match self.inner.flush() {
-            Ok(n) => Ok(n),
-            Err(e) => {
-                self.failed = true;
-                Err(e)
-            }
-        }
+        let answer = self.inner.flush();
+        self.noted(answer)
     }
 }
 
 impl<W: Write> Sink for Watched<W> {
     ghost has_failed = { λ w. w.failed };
 
-    ghost has_stalled = { λ w. w.stalled };
+    ghost stalls = { λ w. w.stalls };
 
     fn failed(&self) -> bool {
         self.failed
     }
 
     fn put(&mut self, buf: &[u8]) -> io::Result<usize> {
-        match self.inner.write(buf) {
-            Ok(n) => {
-                self.stalled = n == 0 && !buf.is_empty();
-                Ok(n)
-            }
-            Err(e) => {
-                self.failed = true;
-                Err(e)
-            }
+        let answer = self.inner.write(buf);
+        if matches!(&answer, Ok(0)) && !buf.is_empty() {
+            self.stalls = self.stalls.saturating_add(1);
         }
+        self.noted(answer)
     }
 }

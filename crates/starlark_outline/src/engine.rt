@@ -7,7 +7,7 @@ ghost use Rattle.starlark_outline.specs.Kept.{joined};
 ghost use Rattle.starlark_outline.specs.Parts.{HasOutline};
 ghost use Rattle.starlark_outline.specs.Printed.{edit_line, outline_lines};
 ghost use Rattle.starlark_outline.specs.Coming.{coming, weight};
-ghost use Rattle.starlark_outline.specs.Engine.{Answers, Wrote, WroteFront};
+ghost use Rattle.starlark_outline.specs.Engine.{Answers, Wrote, WroteFront, WroteSoFar};
 
 use crate::ahead::Ahead;
 use crate::device::{Sink, Source};
@@ -23,9 +23,9 @@ use std::alloc::Global;
 fn write_outline<W: Sink>(writer: &mut W, items: &[OutlineItem]) -> Result<(), RunFault>
     requires { W.has_failed writer.old ≡ false }
     ensures ok { OnOk result (Appends (W.contents writer.old) (W.contents writer.new) (outline_lines items.now)) }
-    ensures sound { OnOk result (W.has_failed writer.new ≡ false) }
+    ensures sound { OnOk result ((W.has_failed writer.new ≡ false) × (W.stalls writer.new ≡ W.stalls writer.old)) }
     ensures front { OnErr result (AppendsFront (W.contents writer.old) (W.contents writer.new) (outline_lines items.now)) }
-    ensures err { IfErr result (λ e. (e ≡ RunFault.Write) × ((W.has_failed writer.new ≡ true) ⊎ (W.has_stalled writer.new ≡ true))) }
+    ensures err { IfErr result (λ e. (e ≡ RunFault.Write) × ((W.has_failed writer.new ≡ true) ⊎ CountsOn 1 (W.stalls writer.old) (W.stalls writer.new))) }
 {
     write_all(writer, Reply::count(items.len()).as_slice())?;
     for item in items {
@@ -38,9 +38,9 @@ fn write_outline<W: Sink>(writer: &mut W, items: &[OutlineItem]) -> Result<(), R
 fn write_done<W: Sink>(writer: &mut W, done: Result<(), PartFault>) -> Result<(), RunFault>
     requires { W.has_failed writer.old ≡ false }
     ensures ok { OnOk result (Appends (W.contents writer.old) (W.contents writer.new) (edit_line done)) }
-    ensures sound { OnOk result (W.has_failed writer.new ≡ false) }
+    ensures sound { OnOk result ((W.has_failed writer.new ≡ false) × (W.stalls writer.new ≡ W.stalls writer.old)) }
     ensures front { OnErr result (AppendsFront (W.contents writer.old) (W.contents writer.new) (edit_line done)) }
-    ensures err { IfErr result (λ e. (e ≡ RunFault.Write) × ((W.has_failed writer.new ≡ true) ⊎ (W.has_stalled writer.new ≡ true))) }
+    ensures err { IfErr result (λ e. (e ≡ RunFault.Write) × ((W.has_failed writer.new ≡ true) ⊎ CountsOn 1 (W.stalls writer.old) (W.stalls writer.new))) }
 {
     match done {
         Ok(()) => write_all(writer, b"ok\n"),
@@ -54,10 +54,10 @@ fn answer<W: Sink>(writer: &mut W, parts: &mut Parts, asked: Asked) -> Result<()
     requires outlined { HasOutline parts.old.dialect (joined parts.old.texts) }
     ensures ok { OnOk result ((reply : List ℕ) × Answers parts.old.limit parts.old.dialect parts.old.texts asked reply parts.new.texts
         × Appends (W.contents writer.old) (W.contents writer.new) reply) }
-    ensures sound { OnOk result (W.has_failed writer.new ≡ false) }
+    ensures sound { OnOk result ((W.has_failed writer.new ≡ false) × (W.stalls writer.new ≡ W.stalls writer.old)) }
     ensures front { OnErr result ((reply : List ℕ) × Answers parts.old.limit parts.old.dialect parts.old.texts asked reply parts.new.texts
         × AppendsFront (W.contents writer.old) (W.contents writer.new) reply) }
-    ensures err { IfErr result (λ e. (e ≡ RunFault.Write) × ((W.has_failed writer.new ≡ true) ⊎ (W.has_stalled writer.new ≡ true))) }
+    ensures err { IfErr result (λ e. (e ≡ RunFault.Write) × ((W.has_failed writer.new ≡ true) ⊎ CountsOn 1 (W.stalls writer.old) (W.stalls writer.new))) }
     ensures limit { parts.new.limit ≡ parts.old.limit }
     ensures dialect { parts.new.dialect ≡ parts.old.dialect }
     ensures outlined { HasOutline parts.new.dialect (joined parts.new.texts) }
@@ -78,8 +78,8 @@ fn answer<W: Sink>(writer: &mut W, parts: &mut Parts, asked: Asked) -> Result<()
 /// - `Ok(End::Whole)`: the script is at its end after a command.
 /// - `Ok(End::Bad)`: it goes on with a line that is no command, or ends before all bytes of a command. The last reply is
 ///   `bad`.
-/// - `Err(RunFault::Read)`: a read failed, or 2 to the 40th reads were made.
-/// - `Err(RunFault::Write)`: a write failed, or took 0 bytes of some. After both a front of the replies was written.
+/// - `Err(RunFault::Read)`: a read failed, or 2 to the 40th reads were made. Only whole replies were written.
+/// - `Err(RunFault::Write)`: a write failed, or took 0 bytes of some. A front of the replies was written.
 /// - `Err(RunFault::Memory)`: there was no memory for the buffer. Nothing was read or written.
 ///
 /// Want of memory for a text or its reading ends nothing: the reply is `refused memory`.
@@ -94,11 +94,13 @@ pub fn run_with<R: Source, W: Sink>(
     requires writer { W.has_failed writer.old ≡ false }
     // where the script and the writer's bytes are known, replies to the whole script were written, and it ends so
     ensures ok { IfOk result (Wrote limit dialect.now (R.remaining reader.old) (W.contents writer.old) (W.contents writer.new)) }
-    ensures sound { OnOk result ((R.has_failed reader.new ≡ false) × (W.has_failed writer.new ≡ false)) }
+    ensures sound { OnOk result ((R.has_failed reader.new ≡ false) × (W.has_failed writer.new ≡ false) × (W.stalls writer.new ≡ W.stalls writer.old)) }
     // after a fault a front of such replies was written
     ensures front { OnErr result (WroteFront limit dialect.now (R.remaining reader.old) (W.contents writer.old) (W.contents writer.new)) }
     ensures read { IfErr result (λ f. f ≡ RunFault.Read → (R.has_failed reader.new ≡ true) ⊎ CountsOn (2 ^ 40) (R.reads reader.old) (R.reads reader.new)) }
-    ensures write { IfErr result (λ f. f ≡ RunFault.Write → (W.has_failed writer.new ≡ true) ⊎ (W.has_stalled writer.new ≡ true)) }
+    // a fault of the reader cuts no reply
+    ensures whole { IfErr result (λ f. f ≡ RunFault.Read → WroteSoFar limit dialect.now (R.remaining reader.old) (W.contents writer.old) (W.contents writer.new)) }
+    ensures write { IfErr result (λ f. f ≡ RunFault.Write → (W.has_failed writer.new ≡ true) ⊎ CountsOn 1 (W.stalls writer.old) (W.stalls writer.new)) }
     ensures memory { IfErr result (λ f. f ≡ RunFault.Memory → (reader.new ≡ reader.old) × (writer.new ≡ writer.old)) }
 {
     let mut parts = Parts::with_limit(alloc, dialect, limit);
@@ -129,10 +131,11 @@ pub fn run<R: Source, W: Sink>(
     requires reader { R.has_failed reader.old ≡ false }
     requires writer { W.has_failed writer.old ≡ false }
     ensures ok { IfOk result (Wrote 4294967295 dialect.now (R.remaining reader.old) (W.contents writer.old) (W.contents writer.new)) }
-    ensures sound { OnOk result ((R.has_failed reader.new ≡ false) × (W.has_failed writer.new ≡ false)) }
+    ensures sound { OnOk result ((R.has_failed reader.new ≡ false) × (W.has_failed writer.new ≡ false) × (W.stalls writer.new ≡ W.stalls writer.old)) }
     ensures front { OnErr result (WroteFront 4294967295 dialect.now (R.remaining reader.old) (W.contents writer.old) (W.contents writer.new)) }
     ensures read { IfErr result (λ f. f ≡ RunFault.Read → (R.has_failed reader.new ≡ true) ⊎ CountsOn (2 ^ 40) (R.reads reader.old) (R.reads reader.new)) }
-    ensures write { IfErr result (λ f. f ≡ RunFault.Write → (W.has_failed writer.new ≡ true) ⊎ (W.has_stalled writer.new ≡ true)) }
+    ensures whole { IfErr result (λ f. f ≡ RunFault.Read → WroteSoFar 4294967295 dialect.now (R.remaining reader.old) (W.contents writer.old) (W.contents writer.new)) }
+    ensures write { IfErr result (λ f. f ≡ RunFault.Write → (W.has_failed writer.new ≡ true) ⊎ CountsOn 1 (W.stalls writer.old) (W.stalls writer.new)) }
     ensures memory { IfErr result (λ f. f ≡ RunFault.Memory → (reader.new ≡ reader.old) × (writer.new ≡ writer.old)) }
 {
     run_with(alloc, reader, writer, dialect, u32::MAX)

@@ -24,31 +24,38 @@ use starlark_place::codemap::CodeMap;
 use std::alloc::{AllocError, AllocFailed, Global};
 
 /// What a reading stops at once for.
-#[derive(Clone, Copy, Debug, PartialEq, Eq, Drop)]
+#[derive(Clone, Copy, Debug, PartialEq, Eq, Drop, thiserror::Error)]
 pub enum Rule {
     /// The left side of an assignment is no identifier.
+    #[error("the left side of an assignment is no identifier")]
     InvalidLhs,
 }
 
 /// Why a text is refused.
-#[derive(Clone, Copy, Debug, PartialEq, Eq, Drop)]
+#[derive(Clone, Copy, Debug, PartialEq, Eq, Drop, thiserror::Error)]
 pub enum ParserError {
     /// The lexer's fault.
+    #[error("{0}")]
     Lexer(LexemeError),
     /// A token that no program has there.
+    #[error("unexpected token")]
     Unexpected,
     /// The end of the text, at which no program ends.
+    #[error("unexpected end of the text")]
     UnexpectedEnd,
     /// A construct that breaks a rule.
+    #[error("{0}")]
     Rule(Rule),
 }
 
 /// What `parse` answers in place of trees.
-#[derive(Clone, Copy, Debug, PartialEq, Eq, Drop)]
+#[derive(Clone, Copy, Debug, PartialEq, Eq, Drop, thiserror::Error)]
 pub enum ParseFault {
     /// The text is refused, at this place.
+    #[error("{0}")]
     Refused(ParserError, Extent),
     /// Memory ran out.
+    #[error("out of memory")]
     Memory,
 }
 

@@ -60,40 +60,44 @@ fn takes(rt: HostRuntime) -> Result<(), Fail> {
     Ok(())
 }
 
+const INPUT: ParserError = ParserError::Lexer(LexemeError::InvalidInput);
+
+const ZERO: ParserError = ParserError::Lexer(LexemeError::StartsZero);
+
+const TARGET: ParserError = ParserError::Rule(Rule::InvalidLhs);
+
 /// Texts that are refused: why, and from which byte to which.
+const REFUSED: [(&str, ParserError, usize, usize); 25] = [
+    ("f(1,\n", ParserError::Unexpected, 5, 5),
+    ("f(1) )", ParserError::Unexpected, 5, 6),
+    (") $", ParserError::Unexpected, 0, 1),
+    ("x y", ParserError::Unexpected, 2, 3),
+    ("x = = 1", ParserError::Unexpected, 4, 5),
+    ("x = 1 = 2", ParserError::Unexpected, 6, 7),
+    ("f(,)", ParserError::Unexpected, 2, 3),
+    ("1 = f(", ParserError::Unexpected, 6, 6),
+    ("1 =\n", ParserError::Unexpected, 3, 4),
+    ("1 = 2", TARGET, 0, 1),
+    ("1 = 2 )", TARGET, 0, 1),
+    ("1 = 2 $", TARGET, 0, 1),
+    ("1 = f", TARGET, 0, 1),
+    ("1 = f(2)\n", TARGET, 0, 1),
+    ("f(1) = 2", TARGET, 0, 4),
+    ("x\nf(1)(2) = 2", TARGET, 2, 9),
+    ("x $", INPUT, 2, 3),
+    ("f( 01", ZERO, 3, 5),
+    ("1 = f($", INPUT, 6, 7),
+    ("x = if", ParserError::Unexpected, 4, 6),
+    ("x\n\n y", ParserError::Unexpected, 3, 4),
+    ("x + 1", ParserError::Unexpected, 2, 3),
+    ("x # c\n= 1", ParserError::Unexpected, 6, 7),
+    ("1 = 2 # c\n)", TARGET, 0, 1),
+    ("f( # c\n", ParserError::Unexpected, 7, 7),
+];
+
 #[test]
 fn refuses(rt: HostRuntime) -> Result<(), Fail> {
-    let input = ParserError::Lexer(LexemeError::InvalidInput);
-    let zero = ParserError::Lexer(LexemeError::StartsZero);
-    let target = ParserError::Rule(Rule::InvalidLhs);
-    let cases = [
-        ("f(1,\n", ParserError::Unexpected, 5, 5),
-        ("f(1) )", ParserError::Unexpected, 5, 6),
-        (") $", ParserError::Unexpected, 0, 1),
-        ("x y", ParserError::Unexpected, 2, 3),
-        ("x = = 1", ParserError::Unexpected, 4, 5),
-        ("x = 1 = 2", ParserError::Unexpected, 6, 7),
-        ("f(,)", ParserError::Unexpected, 2, 3),
-        ("1 = f(", ParserError::Unexpected, 6, 6),
-        ("1 =\n", ParserError::Unexpected, 3, 4),
-        ("1 = 2", target, 0, 1),
-        ("1 = 2 )", target, 0, 1),
-        ("1 = 2 $", target, 0, 1),
-        ("1 = f", target, 0, 1),
-        ("1 = f(2)\n", target, 0, 1),
-        ("f(1) = 2", target, 0, 4),
-        ("x\nf(1)(2) = 2", target, 2, 9),
-        ("x $", input, 2, 3),
-        ("f( 01", zero, 3, 5),
-        ("1 = f($", input, 6, 7),
-        ("x = if", ParserError::Unexpected, 4, 6),
-        ("x\n\n y", ParserError::Unexpected, 3, 4),
-        ("x + 1", ParserError::Unexpected, 2, 3),
-        ("x # c\n= 1", ParserError::Unexpected, 6, 7),
-        ("1 = 2 # c\n)", target, 0, 1),
-        ("f( # c\n", ParserError::Unexpected, 7, 7),
-    ];
-    for (text, error, begin, end) in cases {
+    for (text, error, begin, end) in REFUSED {
         match read(&rt, text)? {
             Ok(_) => assert!(rt; false, "{text} is refused"),
             Err((found, place)) => {

@@ -15,6 +15,7 @@ use starlark_place::resolved::{ResolvedPos, ResolvedSpan};
 use std::alloc::{AllocError, AllocFailed, Global};
 use std::marker::Model;
 use std::str;
+use thiserror::Error;
 
 /// Who refuses a text.
 #[derive(Clone, Copy, Debug, PartialEq, Eq)]
@@ -25,19 +26,25 @@ pub enum FaultKind {
 }
 
 /// Why an edit is refused.
-#[derive(Clone, Copy, Debug, PartialEq, Eq)]
+#[derive(Clone, Copy, Debug, PartialEq, Eq, Error)]
 pub enum PartFault {
     /// There is no such index.
+    #[error("there is no part at that index")]
     Index,
     /// The bytes are not UTF-8.
+    #[error("the bytes are not UTF-8")]
     Utf8,
     /// The joined text would have more bytes than the limit.
+    #[error("the joined text would be too long")]
     Long,
     /// The text alone is refused there, by its own lines and columns.
+    #[error("the text is refused at {1}")]
     Parse(FaultKind, ResolvedSpan),
     /// The text is empty, does not end in a line feed, or has a backslash right before its last line end.
+    #[error("the text is open")]
     Open,
     /// Memory ran out.
+    #[error("out of memory")]
     Memory,
 }
 
@@ -202,7 +209,7 @@ impl Parts {
 
     /// The text of the part at that index, if there is one.
     pub fn part(&self, index: usize) -> Option<&str>
-        ensures { MatchOption result (length self.now.texts ≤ index) (λ text. text.now ≡ get_or self.now.texts index []) }
+        ensures { MatchOption result (length self.now.texts ≤ index) (λ text. (index < length self.now.texts) × (text.now ≡ get_or self.now.texts index [])) }
     {
         match self.parts.get(index) {
             Some(part) => Some(part.codemap.source()),

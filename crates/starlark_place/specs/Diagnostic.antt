@@ -21,9 +21,9 @@ span_of w = w.diagnostic.value.span
 abbrev pub frames_of : {T : Type 0} → WithDiagnostic T → List Frame
 frames_of w = w.diagnostic.value.call_stack.frames.items
 
--- a refusal for an error at a place, unless memory ran out
+-- a refusal for an error at a place, with no calls, unless memory ran out
 abbrev pub Refuses : {T : Type 0} → T → FilePlace → Refusal T → Type 0
-Refuses error place (Fault w) = (inner_of w ≡ error) × (span_of w ≡ Some place)
+Refuses error place (Fault w) = (inner_of w ≡ error) × (span_of w ≡ Some place) × (frames_of w ≡ [])
 Refuses error place Memory = Unit {0}
 
 -- the place of a refusal, if it has one

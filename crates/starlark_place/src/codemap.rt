@@ -100,7 +100,7 @@ impl CodeMap {
         ensures fits { IfOk result (λ _. length (string_bytes source) ≤ 4294967295) }
         ensures too_long { IsErrOf result CodeMapError.TooLong ↔ (4294967295 < length (string_bytes source)) }
     {
-        if source.len() > 4_294_967_295 {
+        if source.len() > u32::MAX as usize {
             return Err(CodeMapError::TooLong);
         }
         let lines = line_begins(alloc, source.as_bytes())?;

@@ -1,6 +1,6 @@
 //! Code maps by their ids.
 
-ghost use Rattle.std.specs.Prelude.{◌≡◌, ℕ, None, OnOk, OnErr, IfOk};
+ghost use Rattle.std.specs.Prelude.{◌≡◌, ℕ, None, OnOk, OnErr};
 ghost use Rattle.std.specs.Option.{option_map};
 ghost use Rattle.starlark_place.specs.Maps.{map_of, with_entry, with_map, with_maps};
 

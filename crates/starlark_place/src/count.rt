@@ -1,6 +1,6 @@
 //! Counts over bytes, a block at a time.
 
-ghost use Rattle.std.specs.Prelude.{◌≡◌, ◌+◌, ◌≤◌, ◌==◌, length, count_by};
+ghost use Rattle.std.specs.Prelude.{◌≡◌, ◌+◌, ◌==◌, length, count_by};
 ghost use Rattle.starlark_place.specs.Place.{characters};
 
 use std::simd::prelude::*;

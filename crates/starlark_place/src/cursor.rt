@@ -1,9 +1,8 @@
 //! Reading a text from one end to the other.
 
 ghost use Rattle.std.specs.Prelude.{◌≡◌, ◌≤◌, ◌<◌, ◌+◌, ◌-◌, length, slice_index, IfSome, MatchOption};
-ghost use Rattle.std.specs.Char.{encode_utf8};
 ghost use Rattle.std.specs.Str.{IsCharBoundary};
-ghost use Rattle.starlark_place.specs.Cursor.{at, IsNext, TakesChar, StandsAt};
+ghost use Rattle.starlark_place.specs.Cursor.{At, at, IsNext, TakesChar, StandsAt};
 
 use std::marker::Model;
 
@@ -11,7 +10,7 @@ use std::marker::Model;
 #[derive(Debug, Drop)]
 pub struct CursorBytes<'a> {
     text: &'a str,
-    place: usize,
+    offset: usize,
 }
 
 impl<'a> Model for CursorBytes<'a> {
@@ -20,17 +19,18 @@ impl<'a> Model for CursorBytes<'a> {
 
     ghost Value = { At };
 
-    ghost view = { λ c. at c.text.now c.place };
+    ghost view = { λ c. at c.text.now c.offset };
 
-    ghost invariant = { λ c. c.place ≤ length c.text.now };
+    ghost invariant = { λ c. c.offset ≤ length c.text.now };
 }
 
 impl<'a> CursorBytes<'a> {
     /// At the beginning of a text.
     pub fn new(text: &'a str) -> CursorBytes<'a>
-        ensures { result ≡ at text.now 0 }
+        ensures is { result ≡ at text.now 0 }
+        ensures boundary { IsCharBoundary text.now 0 }
     {
-        CursorBytes { text, place: 0 }
+        CursorBytes { text, offset: 0 }
     }
 
     /// The byte at the place, which moves behind it, or none at the end.
@@ -38,26 +38,23 @@ impl<'a> CursorBytes<'a> {
         ensures { MatchOption result ((self.old.place ≡ length self.old.text) × (self.new ≡ self.old)) (λ b. (self.old.place < length self.old.text) × (b ≡ slice_index self.old.text self.old.place) × (self.new ≡ at self.old.text (self.old.place + 1))) }
     {
         let bytes = self.text.as_bytes();
-        if self.place == bytes.len() {
+        if self.offset == bytes.len() {
             return None;
         }
-        let byte = bytes[self.place];
-        self.place += 1;
+        let byte = bytes[self.offset];
+        self.offset += 1;
         Some(byte)
     }
 
     /// The character at the place, which moves behind it, or none at the end. The place is at a character's boundary.
     pub fn next_char(&mut self) -> Option<char>
         requires { IsCharBoundary self.old.text self.old.place }
-        ensures { TakesChar self.old result self.new }
+        ensures takes { TakesChar self.old result self.new }
+        ensures boundary { IsCharBoundary self.new.text self.new.place }
     {
-        match char_at(self.text, self.place) {
-            None => None,
-            Some((c, next)) => {
-                self.place = next;
-                Some(c)
-            }
-        }
+        let (c, next) = char_at(self.text, self.offset)?;
+        self.offset = next;
+        Some(c)
     }
 
     /// The number of bytes before the place.
@@ -65,7 +62,7 @@ impl<'a> CursorBytes<'a> {
         ensures is { result ≡ self.now.place }
         ensures within { result ≤ length self.now.text }
     {
-        self.place
+        self.offset
     }
 }
 
@@ -103,13 +100,9 @@ impl<'a> CursorChars<'a> {
     pub fn next(&mut self) -> Option<char>
         ensures { TakesChar self.old result self.new }
     {
-        match char_at(self.text, self.place) {
-            None => None,
-            Some((c, next)) => {
-                self.place = next;
-                Some(c)
-            }
-        }
+        let (c, next) = char_at(self.text, self.place)?;
+        self.place = next;
+        Some(c)
     }
 
     /// The character at the place, or none at the end.
@@ -121,7 +114,7 @@ impl<'a> CursorChars<'a> {
 
     /// Moves back by `c`, which stands right before the place.
     pub fn unnext(&mut self, c: char)
-        requires { IsNext (at self.old.text (self.old.place - length (encode_utf8 c))) c self.old }
+        requires { (before : At) × IsNext before c self.old }
         ensures { IsNext self.new c self.old }
     {
         self.place -= c.len_utf8();

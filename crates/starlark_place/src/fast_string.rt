@@ -1,6 +1,6 @@
 //! Texts as lists of characters.
 
-ghost use Rattle.std.specs.Prelude.{◌≡◌, ◌≤◌, ◌<◌, ◌+◌, ◌-◌, ◌^◌, ◌++◌, ◌==◌, ◌∷◌, ◌↔◌, ◌≤ℤ◌, ℕ, min, pos, nat_abs, length, take, drop, slice_get, count_by, MatchOption, true, false, []};
+ghost use Rattle.std.specs.Prelude.{◌≡◌, ◌≤◌, ◌<◌, ◌+◌, ◌-◌, ◌^◌, ◌++◌, ◌==◌, ◌∷◌, ◌≤ℤ◌, ℕ, min, pos, nat_abs, length, take, drop, slice_get, count_by, MatchOption, true, false, []};
 ghost use Rattle.std.specs.Str.{chars, IsCharBoundary};
 ghost use Rattle.starlark_place.specs.Place.{characters};
 ghost use Rattle.starlark_place.specs.Strings.{matches_in, stands_in, begins_with, from_end, index_in, index_or, piece_begin, piece_end, IsCut};

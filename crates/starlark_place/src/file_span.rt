@@ -2,7 +2,7 @@
 
 ghost use Rattle.std.specs.Prelude.{◌≡◌, ◌≤◌, ◌<◌, ◌↔◌, IfOk, IsErrOf, string_bytes, length, slice_range};
 ghost use Rattle.starlark_place.specs.Place.{FilePlace, file_place, extent};
-ghost use Rattle.std.specs.Prelude.{Some, ◌==◌, ◌++◌};
+ghost use Rattle.std.specs.Prelude.{Some, ◌==◌};
 ghost use Rattle.std.proofs.Common.{rules};
 ghost use Rattle.std.specs.Cmp.{partial_order_from_own_ties};
 ghost use Rattle.std.specs.Cmp.Rules.{comparing, hashing};
@@ -60,14 +60,14 @@ impl FileSpan {
     pub fn filename(&self) -> &str
         ensures { result.now ≡ self.now.file.name }
     {
-        self.file.filename()
+        self.as_ref().filename()
     }
 
     /// The text of the stretch.
     pub fn source_span(&self) -> &str
         ensures { result.now ≡ slice_range self.now.file.source self.now.extent.begin self.now.extent.end }
     {
-        self.file.source_span(self.span)
+        self.as_ref().source_span()
     }
 
     /// The same with the source lent.
@@ -84,11 +84,9 @@ impl FileSpan {
     pub fn resolve_span(&self) -> ResolvedSpan
         ensures { result ≡ resolved_span self.now.file.source self.now.extent }
     {
-        self.file.resolve_span(self.span)
+        self.as_ref().resolve_span()
     }
-}
 
-impl FileSpan {
     /// The lines and columns, with the source's name. The name is a copy, refused where memory runs out.
     pub fn resolve(&self, alloc: Global) -> Result<ResolvedFileSpan, AllocError>
         ensures file { IfOk result (λ r. string_bytes r.file ≡ self.now.file.name) }
@@ -105,9 +103,7 @@ impl fmt::Display for FileSpan {
     ghost output = { λ s. Some (shown_place s) };
 
     fn fmt<W: fmt::Write>(&self, f: &mut fmt::Formatter<W>) -> fmt::Result {
-        let file = self.filename();
-        let span = self.resolve_span();
-        write!(f, "{file}:{span}")
+        self.as_ref().fmt(f)
     }
 }
 
@@ -192,7 +188,7 @@ impl<'a> Model for FileSpanRef<'a> {
 
 impl<'a> FileSpanRef<'a> {
     /// The name of its source.
-    pub fn filename(&self) -> &str
+    pub fn filename(&self) -> &'a str
         ensures { result.now ≡ self.now.file.name }
     {
         self.file.filename()
@@ -206,7 +202,7 @@ impl<'a> FileSpanRef<'a> {
     }
 
     /// The text of the stretch.
-    pub fn source_span(&self) -> &str
+    pub fn source_span(&self) -> &'a str
         ensures { result.now ≡ slice_range self.now.file.source self.now.extent.begin self.now.extent.end }
     {
         self.file.source_span(self.span)

@@ -1,11 +1,13 @@
 //! Laws on places.
 
-ghost use Rattle.std.specs.Prelude.{◌≡◌, ◌≤◌, ◌<◌, ◌+◌, ◌↔◌, ℕ, List, true, length, map, slice_range};
+ghost use Rattle.std.specs.Prelude.{◌≡◌, ◌≤◌, ◌+◌, ◌↔◌, ℕ, List, true, map};
 ghost use Rattle.std.specs.List.{concat, range_with_len};
 ghost use Rattle.std.specs.declared.cmp.Ordering.TheVariants.{Equal};
 ghost use Rattle.starlark_place.specs.Place.{Extent, FilePlace, line_at, line_feeds, line_begin, line_text};
 ghost use Rattle.starlark_place.specs.Resolved.{resolved, IsAtMost};
 ghost use Rattle.starlark_place.specs.Laws.{Intersects, compares, equals, hashes};
+
+use crate::codemap::CodeMapId;
 
 /// Of two stretches each meets the other or neither does.
 pub fn intersects_both_ways()
@@ -31,4 +33,9 @@ pub fn lines_begin()
 pub fn comparisons_agree()
     ensures order { (s t : FilePlace) → (equals s t ≡ true) ↔ (compares s t ≡ Equal) }
     ensures hash { (s t : FilePlace) → equals s t ≡ true → hashes s ≡ hashes t }
+{}
+
+/// The id of a map of no text is 0.
+pub fn empty_id_is_zero()
+    ensures { CodeMapId.EMPTY.0 ≡ 0 }
 {}

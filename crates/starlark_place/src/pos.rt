@@ -1,6 +1,6 @@
 //! Places and stretches of a text, in bytes.
 
-ghost use Rattle.std.specs.Prelude.{◌≡◌, ◌+◌, ◌-◌, ◌^◌, ◌<◌, ◌≤◌, IsTrue, ◌↔◌, ◌&&◌, nat_le};
+ghost use Rattle.std.specs.Prelude.{◌≡◌, ◌+◌, ◌-◌, ◌^◌, ◌<◌, ◌≤◌, IsTrue, ◌↔◌, ◌&&◌};
 ghost use Rattle.std.specs.Iterator.{IsFinite};
 ghost use Rattle.std.specs.Option.{unwrap_or};
 ghost use Rattle.std.specs.Iterator.Runs.{WholeRun};
@@ -85,10 +85,7 @@ pub struct Span {
 
 impl Model for Span {
     ghost use Rattle.std.specs.Prelude.{◌≤◌};
-    ghost use Rattle.std.specs.Iterator.{IsFinite};
-    ghost use Rattle.std.specs.Option.{unwrap_or};
-    ghost use Rattle.std.specs.Iterator.Runs.{WholeRun};
-    ghost use Rattle.starlark_place.specs.Place.{merged_all, merged_into, Extent};
+    ghost use Rattle.starlark_place.specs.Place.{Extent};
 
     ghost Value = { Extent };
 

@@ -1,7 +1,6 @@
 //! Lines and columns.
 
-ghost use Rattle.std.specs.Prelude.{◌≡◌, ◌≤◌, ◌+◌, ◌↔◌, ◌∷◌, ◌++◌, IsTrue, IfOk, Some, string_bytes, decimal};
-ghost use Rattle.std.specs.Ordering.{is_gt, then_cmp, on, nat_cmp};
+ghost use Rattle.std.specs.Prelude.{◌≡◌, ◌+◌, ◌↔◌, ◌∷◌, ◌++◌, IsTrue, IfOk, Some, string_bytes, decimal};
 ghost use Rattle.starlark_place.specs.Resolved.{IsAtMost};
 ghost use Rattle.starlark_place.specs.Shown.{shown_pos, shown_span, shown_in};
 
@@ -41,15 +40,8 @@ impl ResolvedSpan {
     pub fn contains(&self, pos: ResolvedPos) -> bool
         ensures { IsTrue result ↔ IsAtMost self.now.begin pos × IsAtMost pos self.now.end }
     {
-        is_at_most(self.begin, pos) && is_at_most(pos, self.end)
+        self.begin <= pos && pos <= self.end
     }
-}
-
-// whether one place is at or before another
-fn is_at_most(a: ResolvedPos, b: ResolvedPos) -> bool
-    ensures { IsTrue result ↔ IsAtMost a b }
-{
-    a.line < b.line || a.line == b.line && a.column <= b.column
 }
 
 impl fmt::Display for ResolvedSpan {

@@ -282,8 +282,9 @@ fn spans(rt: HostRuntime) {
 #[test]
 fn cursors(rt: HostRuntime) {
     let mut bytes = CursorBytes::new("aé");
-    assert_eq!(rt; bytes.next(), Some(b'a'));
-    assert_eq!(rt; bytes.pos(), 1);
+    assert_eq!(rt; bytes.next_char(), Some('a'));
+    assert_eq!(rt; bytes.next(), Some(195));
+    assert_eq!(rt; bytes.pos(), 2);
     let mut chars = CursorChars::new_offset("aé", 0);
     assert_eq!(rt; chars.peek(), Some('a'));
     assert_eq!(rt; chars.next(), Some('a'));

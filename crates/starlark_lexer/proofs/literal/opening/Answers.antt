@@ -1,7 +1,10 @@
 use Rattle.std.proofs.Common.{◌+◌, ap, sym, ◌∙◌, Some}
 use Rattle.starlark_lexer.specs.Fronts.{front_of}
-use Rattle.starlark_lexer.proofs.Openings.{at_front, no_prefix}
+use Rattle.starlark_lexer.proofs.Openings.{at_front, no_prefix, unopened}
 use Rattle.starlark_lexer.proofs.literal.opening.Goals as goal
+
+pub returns-then-not-may_open : goal.returns-then-not-may_open
+returns-then-not-may_open c = record { value = sym (unopened c.args.bytes.now (sym c.may_open.ensures ∙ c.if-not-may_open.true)) }
 
 pub returns-in_err-sort : goal.returns-in_err-sort
 returns-in_err-sort c =

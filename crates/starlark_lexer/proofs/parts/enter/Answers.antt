@@ -1,4 +1,4 @@
-use Rattle.std.proofs.Common.{◌≡◌, ◌++◌, [], ◌∷◌, arith, sym, ◌∙◌, ap, drop, subst, refl}
+use Rattle.std.proofs.Common.{[], ◌∷◌, sym, ◌∙◌, drop, subst, refl}
 use Rattle.starlark_lexer.specs.declared.parts.Parts.{Parts}
 use Rattle.starlark_lexer.specs.Turns.{Bounds}
 use Rattle.starlark_lexer.proofs.Sounds.{enter_sound}

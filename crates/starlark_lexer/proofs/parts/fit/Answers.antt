@@ -1,7 +1,6 @@
-use Rattle.std.proofs.Common.{◌≡◌, ◌-◌, arith, drop, subst, ap, refl, length, suc}
+use Rattle.std.proofs.Common.{◌-◌, arith, drop, subst, ap, refl}
 use Rattle.starlark_lexer.specs.declared.parts.Parts.{Parts}
-use Rattle.starlark_lexer.specs.Turns.{Bounds, Keeps}
-use Rattle.starlark_lexer.specs.Parts.{IsReady}
+use Rattle.starlark_lexer.specs.Turns.{Bounds}
 use Rattle.starlark_lexer.proofs.Sounds.{mode_sound, with_margin}
 use Rattle.starlark_lexer.proofs.Hands.{fits_left, fits_more}
 use Rattle.starlark_lexer.proofs.parts.fit.Goals as goal

@@ -1,4 +1,4 @@
-use Rattle.std.proofs.Common.{◌≡◌, ◌+◌, ◌-◌, arith, sym, ◌∙◌, ap, drop, take, subst, refl, length-drop}
+use Rattle.std.proofs.Common.{◌≡◌, ◌+◌, ◌-◌, arith, sym, ◌∙◌, ap, drop, take, subst, length-drop}
 use Rattle.starlark_lexer.specs.Scan.{lexeme_from}
 use Rattle.starlark_lexer.specs.Parts.{IsSound}
 use Rattle.starlark_lexer.specs.Turns.{Cuts, Bounds}

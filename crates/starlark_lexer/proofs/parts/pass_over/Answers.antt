@@ -1,4 +1,4 @@
-use Rattle.std.proofs.Common.{◌≡◌, refl}
+use Rattle.std.proofs.Common.{refl}
 use Rattle.starlark_lexer.specs.declared.parts.Parts.{Parts}
 use Rattle.starlark_lexer.proofs.Sounds.{mode_sound}
 use Rattle.starlark_lexer.proofs.Hands.{gap_left, gap_stands, gap_bound}

@@ -1,7 +1,7 @@
 use Rattle.std.proofs.Common.{◌≡◌, arith, sym, ◌∙◌, ap, drop}
 use Rattle.std.proofs.lemmas.List.{take_rest}
 use Rattle.starlark_lexer.specs.Scan.{pass}
-use Rattle.starlark_lexer.proofs.Gaps.{gap_on, gap_stop, pass_within}
+use Rattle.starlark_lexer.proofs.Gaps.{gap_on, gap_stop}
 use Rattle.starlark_lexer.proofs.scan.gap.Goals as goal
 
 pub returns-then-len-eq0-clause-value : goal.returns-then-len-eq0-clause-value

@@ -1,5 +1,5 @@
-use Rattle.std.proofs.Common.{◌≡◌, ◌≤◌, ◌+◌, arith, sym, ◌∙◌, ap, drop, length, length-drop}
-use Rattle.std.proofs.lemmas.List.{take_rest, drop_all}
+use Rattle.std.proofs.Common.{◌≡◌, ◌≤◌, arith, sym, ◌∙◌, ap, drop, length, length-drop}
+use Rattle.std.proofs.lemmas.List.{take_rest}
 use Rattle.starlark_lexer.specs.Classes.{line_end, line_len}
 use Rattle.starlark_lexer.proofs.Gaps.{line_on, line_stop, line_len_within}
 use Rattle.starlark_lexer.proofs.scan.line_len.Goals as goal

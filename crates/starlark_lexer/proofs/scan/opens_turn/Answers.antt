@@ -1,4 +1,4 @@
-use Rattle.std.proofs.Common.{◌≡◌, ◌-◌, length, take, drop, sym, subst}
+use Rattle.std.proofs.Common.{◌-◌, length, take, drop, sym, subst}
 use Rattle.std.proofs.lemmas.List.{take_rest}
 use Rattle.starlark_lexer.specs.Scan.{IsEnding}
 use Rattle.starlark_lexer.proofs.Cuts.{ending_small}

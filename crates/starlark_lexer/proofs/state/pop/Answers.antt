@@ -1,4 +1,4 @@
-use Rattle.std.proofs.Common.{◌≡◌, ap, sym, ◌∙◌}
+use Rattle.std.proofs.Common.{ap, sym, ◌∙◌}
 use Rattle.starlark_lexer.specs.Scan.{last_mode}
 use Rattle.starlark_lexer.proofs.Modes.{last_more}
 use Rattle.starlark_lexer.proofs.state.pop.Goals as goal

@@ -1,16 +1,34 @@
 use Rattle.std.proofs.Common.{arith, rules}
 use Rattle.std.proofs.lemmas.Result.{err_from_is_err_and}
 use Rattle.std.proofs.lemmas.Grind.{common_steps}
-use Rattle.starlark_outline.proofs.Runs.{going_on, going_whole, going_bad, going_unread, going_unwritten, going_unbroken, nothing_written}
+use Rattle.starlark_outline.proofs.Runs.{going_on, going_whole, going_bad, going_unread, going_unwritten, going_unbroken, going_so_far, going_first, nothing_written}
 use Rattle.starlark_outline.proofs.engine.run_with.Goals as goal
 
 pub returns-in-Err-clause-front : goal.returns-in-Err-clause-front
 returns-in-Err-clause-front g c = nothing_written _ _ _ _ c.with_limit-parts.ensures.outlined
 
+pub commands-init : goal.commands-init
+commands-init g c = record {
+  going = going_first c.args.limit c.args.dialect.now _ _ c.with_limit-parts.result.texts c.in-Ok.ahead c.with_limit-parts.ensures.texts c.in-Ok.ensures.0;
+  limit = first_of (search rules, grind (arith, common_steps));
+  dialect = first_of (search rules, grind (arith, common_steps));
+  outlined = first_of (search rules, grind (arith, common_steps));
+  reads = first_of (search rules, grind (arith, common_steps));
+  writes = first_of (search rules, grind (arith, common_steps));
+  still = first_of (search rules, grind (arith, common_steps));
+  fewer = first_of (search rules, grind (arith, common_steps));
+  count = first_of (search rules, grind (arith, common_steps));
+}
+
 pub returns-in_err-next_request-clause-front : goal.returns-in_err-next_request-clause-front
 returns-in_err-next_request-clause-front g c =
     let p = err_from_is_err_and c.from_residual.result c.from_residual.ensures.1 in
     rw p.1 (going_unread c.args.limit c.args.dialect.now _ _ c.commands.parts.texts _ _ (rw c.commands.invariant.dialect at c.commands.invariant.outlined) c.commands.invariant.going)
+
+pub returns-in_err-next_request-clause-whole : goal.returns-in_err-next_request-clause-whole
+returns-in_err-next_request-clause-whole g c =
+    let p = err_from_is_err_and c.from_residual.result c.from_residual.ensures.1 in
+    rw p.1 (λ e. going_so_far c.args.limit c.args.dialect.now _ _ c.commands.parts.texts _ _ c.commands.invariant.going)
 
 pub returns-in-Whole-clause-ok : goal.returns-in-Whole-clause-ok
 returns-in-Whole-clause-ok g c =
@@ -44,6 +62,7 @@ commands-preserved g c =
       outlined = first_of (search rules, grind (arith, common_steps));
       reads = first_of (search rules, grind (arith, common_steps));
       writes = first_of (search rules, grind (arith, common_steps));
+      still = first_of (search rules, grind (arith, common_steps));
       fewer = first_of (search rules, grind (arith, common_steps));
       count = first_of (search rules, grind (arith, common_steps));
     }

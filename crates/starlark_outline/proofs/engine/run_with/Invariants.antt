@@ -14,6 +14,7 @@ invariant-commands g l = record {
   outlined : HasOutline l.parts.dialect (joined l.parts.texts);
   reads : g.R.Source.has_failed l.reader ≡ false;
   writes : g.W.Sink.has_failed l.writer ≡ false;
+  still : g.W.Sink.stalls l.writer ≡ g.W.Sink.stalls l.fn.writer;
   fewer : l.ahead.reads ≤ 2 ^ 40;
   count : CountsOn (2 ^ 40 - l.ahead.reads) (g.R.Source.reads l.fn.reader) (g.R.Source.reads l.reader);
 }

@@ -16,6 +16,7 @@ pub loop-item-init : goal.loop-item-init
 loop-item-init g c = record {
   told = begun _ _ c.args.items.now (rw (c.as_slice.ensures, c.count.ensures) at c.in_ok-write_all.ensures.ok);
   sound = first_of (search rules, grind (arith, common_steps));
+  still = first_of (search rules, grind (arith, common_steps));
 }
 
 pub returns-in_err-write_all-2-clause-front : goal.returns-in_err-write_all-2-clause-front
@@ -32,6 +33,7 @@ loop-item-preserved g c =
       told = line_on _ _ _ (count_line (length items)) items c.loop-item.item-index _ c.loop-item-test.true c.loop-item.invariant.told
           (rw (c.as_slice-in-loop-item.ensures, c.statement.ensures) at c.in_ok-write_all-2.ensures.ok);
       sound = first_of (search rules, grind (arith, common_steps));
+      still = first_of (search rules, grind (arith, common_steps));
     }
 
 pub returns-clause-ok : goal.returns-clause-ok

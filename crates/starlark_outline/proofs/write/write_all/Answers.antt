@@ -11,6 +11,7 @@ loop-at-preserved g c = record {
   within = first_of (search rules, grind (arith, common_steps));
   told = told_more _ _ _ c.loop-at.at c.in-Ok.n c.args.bytes.now c.loop-at.invariant.told c.in-Ok.ensures.bytes;
   sound = first_of (search rules, grind (arith, common_steps));
+  still = first_of (search rules, grind (arith, common_steps));
 }
 
 pub returns-in-Err-clause-front : goal.returns-in-Err-clause-front

@@ -7,6 +7,7 @@ invariant-loop-at g l = record {
   within : l.at ≤ length l.bytes;
   told : Appends (g.W.Write.contents l.fn.writer) (g.W.Write.contents l.writer) (take l.at l.bytes);
   sound : g.W.Sink.has_failed l.writer ≡ false;
+  still : g.W.Sink.stalls l.writer ≡ g.W.Sink.stalls l.fn.writer;
 }
 
 abbrev pub decreases-loop-at : goal.decreases-loop-at

@@ -1,5 +1,6 @@
 use Rattle.std.proofs.Common.{◌≡◌, ◌<◌, ◌≤◌, ℕ, ◌+◌, ◌-◌, List, ◌++◌, length, drop, get_or, ap, ◌∙◌, sym, arith, inl, inr, ltb, ◌⊎◌, subst, refl, get_or-drop}
 use lib.Utf8.{encode}
+use Rattle.std.specs.Char.{encode_utf8}
 use Rattle.std.specs.Str.{IsCharBoundary}
 use Rattle.std.proofs.lemmas.Bool.{cases_Bool}
 use Rattle.std.proofs.lemmas.Bool.Decides.{nat_tests}
@@ -32,10 +33,15 @@ place_is : (c : goal.After-self-1) → at c.self.inside.text.now (c.self.inside.
 place_is c =
     at_same _ _ _ _ (ap (λ a. a.text) c.self.view_is) (let p = ap (λ a. a.place) c.self.view_is in let n = c.len_utf8.ensures.len in omega arith)
 
+stands : (c : goal.After-self-1) → IsNext (at c.args.self.now.text (c.args.self.now.place - length (encode_utf8 c.args.c))) c.args.c c.args.self.now
+stands c =
+    let h = c.requires.1 in
+    subst (λ b. IsNext b c.args.c c.args.self.now) (at_same _ _ _ _ (sym h.text) (let p = h.place in omega arith)) h
+
 pub invariant_of-self : goal.invariant_of-self
 invariant_of-self c =
     boundary c.self.inside.text.now (drop c.args.self.now.place c.args.self.now.text) (c.self.inside.place - c.len_utf8.result) c.args.c (omega (arith, c.self.invariant.0))
-    (rw (ap (λ a. a.text) (place_is c), ap (λ a. a.place) (place_is c)) c.requires.stands)
+    (rw (ap (λ a. a.text) (place_is c), ap (λ a. a.place) (place_is c)) (stands c).stands)
 
 pub returns : goal.returns
-returns c = subst (λ h. IsNext h c.args.c c.args.self.now) (sym (place_is c)) c.requires
+returns c = subst (λ h. IsNext h c.args.c c.args.self.now) (sym (place_is c)) (stands c)
