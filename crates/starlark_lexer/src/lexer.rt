@@ -39,7 +39,8 @@ impl<'a> Model for Lexer<'a> {
 }
 
 impl<'a> Lexer<'a> {
-    /// Stands at the beginning of the input, which is the map's source. The dialect changes no lexeme.
+    /// Stands at the beginning of the input, which is the map's source. It takes no memory, and the dialect changes no
+    /// lexeme.
     pub fn new(alloc: Global, input: &'a str, _dialect: &Dialect, codemap: CodeMap) -> Lexer<'a>
         requires { codemap.source ≡ input.now }
         ensures left { Lex start input.now result.left }
@@ -74,7 +75,7 @@ impl<'a> Lexer<'a> {
     }
 
     /// The next lexeme with its beginning and end in bytes, or the fault, or `Memory` where memory runs out.
-    /// After the first `Err` it answers `None`, as behind the last lexeme.
+    /// After the first `Err` it answers `None` for ever, as behind the last lexeme.
     pub fn next(&mut self) -> Option<Result<(usize, Token, usize), EvalException>>
         ensures gives { Gives self.old.file self.old.left result self.new.left }
         ensures within { Within self.old.size result }

@@ -38,15 +38,11 @@ fn cut(alloc: Global, text: &str) -> Result<String, Fail> {
 }
 
 #[test]
-fn cuts_lines_and_fields(rt: HostRuntime) -> Result<(), Fail> {
+fn cuts_lines(rt: HostRuntime) -> Result<(), Fail> {
     for (text, want) in [
         (
             "if x:\n  y\nz",
             "0-2 If\n3-4 Identifier(\"x\")\n4-5 Colon\n5-6 Newline\n6-8 Indent\n8-9 Identifier(\"y\")\n9-10 Newline\n10-10 Dedent\n10-11 Identifier(\"z\")\n11-11 Newline\n",
-        ),
-        (
-            "f\"a{x!r}b\"",
-            "0-2 FStringStart(Double)\n2-3 FStringText(\"a\")\n3-4 FStringExprStart\n4-5 Identifier(\"x\")\n5-6 FStringBang\n6-7 Identifier(\"r\")\n7-8 FStringExprEnd\n8-9 FStringText(\"b\")\n9-10 FStringEnd\n10-10 Newline\n",
         ),
         (
             "x = 0x1F\n",
@@ -66,10 +62,6 @@ fn cuts_lines_and_fields(rt: HostRuntime) -> Result<(), Fail> {
         ),
         ("\tx\n", "0-0 InvalidTab t\n"),
         (
-            "f\"{x",
-            "0-2 FStringStart(Double)\n2-3 FStringExprStart\n3-4 Identifier(\"x\")\n4-4 Newline\n",
-        ),
-        (
             "# a\r\n# b\nx # c\r\n",
             "0-3 Comment(\" a\")\n5-8 Comment(\" b\")\n9-10 Identifier(\"x\")\n11-14 Comment(\" c\")\n15-16 Newline\n16-16 Newline\n",
         ),
@@ -88,6 +80,74 @@ fn cuts_lines_and_fields(rt: HostRuntime) -> Result<(), Fail> {
         (
             "a\n b",
             "0-1 Identifier(\"a\")\n1-2 Newline\n2-3 Indent\n3-4 Identifier(\"b\")\n4-4 Newline\n4-4 Dedent\n",
+        ),
+    ] {
+        assert_eq!(rt; cut(rt.alloc(), text)?.as_str(), want, "{text:?}");
+    }
+    Ok(())
+}
+
+#[test]
+fn measures_lines(rt: HostRuntime) -> Result<(), Fail> {
+    for (text, want) in [
+        ("", "0-0 Newline\n"),
+        (
+            "\n\nx",
+            "0-1 Newline\n1-2 Newline\n2-3 Identifier(\"x\")\n3-3 Newline\n",
+        ),
+        (
+            " x",
+            "0-1 Indent\n1-2 Identifier(\"x\")\n2-2 Newline\n2-2 Dedent\n",
+        ),
+        ("x\n  ", "0-1 Identifier(\"x\")\n1-2 Newline\n4-4 Newline\n"),
+        ("# a", "0-3 Comment(\" a\")\n3-3 Newline\n"),
+        (
+            "x # c\r",
+            "0-1 Identifier(\"x\")\n2-6 Comment(\" c\\r\")\n6-6 Newline\n",
+        ),
+        ("# a\n\tx", "0-3 Comment(\" a\")\n0-0 InvalidTab t\n"),
+        (
+            "a\n \r b\n  c",
+            "0-1 Identifier(\"a\")\n1-2 Newline\n2-5 Indent\n5-6 Identifier(\"b\")\n6-7 Newline\n9-10 Identifier(\"c\")\n10-10 Newline\n10-10 Dedent\n",
+        ),
+        (
+            "a\n b\n  c\n d",
+            "0-1 Identifier(\"a\")\n1-2 Newline\n2-3 Indent\n3-4 Identifier(\"b\")\n4-5 Newline\n5-7 Indent\n7-8 Identifier(\"c\")\n8-9 Newline\n9-9 Dedent\n10-11 Identifier(\"d\")\n11-11 Newline\n11-11 Dedent\n",
+        ),
+        (
+            "a\n  # c\nb",
+            "0-1 Identifier(\"a\")\n1-2 Newline\n4-7 Comment(\" c\")\n8-9 Identifier(\"b\")\n9-9 Newline\n",
+        ),
+        (
+            "a\n  \n b",
+            "0-1 Identifier(\"a\")\n1-2 Newline\n4-5 Newline\n5-6 Indent\n6-7 Identifier(\"b\")\n7-7 Newline\n7-7 Dedent\n",
+        ),
+        (
+            "(\n\t\n  x]\ny",
+            "0-1 OpeningRound\n6-7 Identifier(\"x\")\n7-8 ClosingSquare\n8-9 Newline\n9-10 Identifier(\"y\")\n10-10 Newline\n",
+        ),
+        ("\\\nx", "2-3 Identifier(\"x\")\n3-3 Newline\n"),
+        (
+            "a\n  \\\nb",
+            "0-1 Identifier(\"a\")\n1-2 Newline\n2-4 Indent\n6-7 Identifier(\"b\")\n7-7 Newline\n7-7 Dedent\n",
+        ),
+        ("x \\\r", "0-1 Identifier(\"x\")\n2-3 InvalidInput t\n"),
+    ] {
+        assert_eq!(rt; cut(rt.alloc(), text)?.as_str(), want, "{text:?}");
+    }
+    Ok(())
+}
+
+#[test]
+fn cuts_f_strings(rt: HostRuntime) -> Result<(), Fail> {
+    for (text, want) in [
+        (
+            "f\"a{x!r}b\"",
+            "0-2 FStringStart(Double)\n2-3 FStringText(\"a\")\n3-4 FStringExprStart\n4-5 Identifier(\"x\")\n5-6 FStringBang\n6-7 Identifier(\"r\")\n7-8 FStringExprEnd\n8-9 FStringText(\"b\")\n9-10 FStringEnd\n10-10 Newline\n",
+        ),
+        (
+            "f\"{x",
+            "0-2 FStringStart(Double)\n2-3 FStringExprStart\n3-4 Identifier(\"x\")\n4-4 Newline\n",
         ),
         (
             "f'{ {1:2}[(3)] }'",
@@ -121,6 +181,30 @@ fn cuts_lines_and_fields(rt: HostRuntime) -> Result<(), Fail> {
             "f\"{[\n1]}\"",
             "0-2 FStringStart(Double)\n2-3 FStringExprStart\n3-4 OpeningSquare\n5-6 Int(I32(1))\n6-7 ClosingSquare\n7-8 FStringExprEnd\n8-9 FStringEnd\n9-9 Newline\n",
         ),
+        (
+            "f''",
+            "0-2 FStringStart(Single)\n2-3 FStringEnd\n3-3 Newline\n",
+        ),
+        (
+            "f'''a\n'''",
+            "0-4 FStringStart(TripleSingle)\n4-6 FStringText(\"a\\n\")\n6-9 FStringEnd\n9-9 Newline\n",
+        ),
+        (
+            "f'\\\n'",
+            "0-2 FStringStart(Single)\n2-4 FStringText(\"\")\n4-5 FStringEnd\n5-5 Newline\n",
+        ),
+        (
+            "fr'\\{x}'",
+            "0-3 FStringStart(Single)\n3-4 FStringText(\"\\\\\")\n4-5 FStringExprStart\n5-6 Identifier(\"x\")\n6-7 FStringExprEnd\n7-8 FStringEnd\n8-8 Newline\n",
+        ),
+        (
+            "f'{x # c\n}'",
+            "0-2 FStringStart(Single)\n2-3 FStringExprStart\n3-4 Identifier(\"x\")\n5-8 Comment(\" c\")\n9-10 FStringExprEnd\n10-11 FStringEnd\n11-11 Newline\n",
+        ),
+        (
+            "(f'{)}'\n)",
+            "0-1 OpeningRound\n1-3 FStringStart(Single)\n3-4 FStringExprStart\n4-5 ClosingRound\n5-6 FStringExprEnd\n6-7 FStringEnd\n8-9 ClosingRound\n9-9 Newline\n",
+        ),
     ] {
         assert_eq!(rt; cut(rt.alloc(), text)?.as_str(), want, "{text:?}");
     }
@@ -149,6 +233,19 @@ fn cuts_literals(rt: HostRuntime) -> Result<(), Fail> {
         (
             "rf x",
             "0-2 Identifier(\"rf\")\n3-4 Identifier(\"x\")\n4-4 Newline\n",
+        ),
+        ("r'\\''", "0-5 String(\"\\\\'\")\n5-5 Newline\n"),
+        ("'\\\r\n'", "0-5 String(\"\")\n5-5 Newline\n"),
+        ("'a\rb'", "0-5 String(\"ab\")\n5-5 Newline\n"),
+        ("'\\1234'", "0-7 String(\"S4\")\n7-7 Newline\n"),
+        ("'\\é'", "1-4 InvalidEscapeSequence t\n"),
+        ("'''a''b'''", "0-10 String(\"a''b\")\n10-10 Newline\n"),
+        ("b'\\u00ff'", "0-9 Bytes([255])\n9-9 Newline\n"),
+        ("b'\\400'", "2-4 InvalidEscapeSequence t\n"),
+        ("br'\\x'", "0-6 Bytes([92, 120])\n6-6 Newline\n"),
+        (
+            "R'a'",
+            "0-1 Identifier(\"R\")\n1-4 String(\"a\")\n4-4 Newline\n",
         ),
     ] {
         assert_eq!(rt; cut(rt.alloc(), text)?.as_str(), want, "{text:?}");
@@ -194,6 +291,27 @@ fn cuts_numbers_and_words(rt: HostRuntime) -> Result<(), Fail> {
         ("a\\b", "0-1 Identifier(\"a\")\n1-2 InvalidInput t\n"),
         ("é", "0-2 InvalidInput t\n"),
         ("True", "0-4 Identifier(\"True\")\n4-4 Newline\n"),
+        (
+            "0X1f 0O17 0B11",
+            "0-4 Int(I32(31))\n5-9 Int(I32(15))\n10-14 Int(I32(3))\n14-14 Newline\n",
+        ),
+        (
+            "0_1",
+            "0-1 Int(I32(0))\n1-3 Identifier(\"_1\")\n3-3 Newline\n",
+        ),
+        ("00", "0-2 StartsZero t\n"),
+        (
+            "1..2",
+            "0-2 Float(\"1.\")\n2-4 Float(\".2\")\n4-4 Newline\n",
+        ),
+        (
+            "1.e5 1.e",
+            "0-4 Float(\"1.e5\")\n5-7 Float(\"1.\")\n7-8 Identifier(\"e\")\n8-8 Newline\n",
+        ),
+        (
+            "0x80000000",
+            "0-10 Int(BigInt { digits: \"80000000\", negative: false, radix: 16 })\n10-10 Newline\n",
+        ),
     ] {
         assert_eq!(rt; cut(rt.alloc(), text)?.as_str(), want, "{text:?}");
     }

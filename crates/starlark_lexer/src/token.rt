@@ -24,7 +24,7 @@ pub enum FStringQuote {
     TripleDouble,
 }
 
-/// How a field of an f-string is printed.
+/// How a field of an f-string is printed: `!s` is `Str`, and `!r` is `Repr`.
 #[derive(Clone, Copy, Debug, PartialEq, Eq)]
 pub enum FStringConv {
     None,
@@ -35,22 +35,34 @@ pub enum FStringConv {
 /// A lexeme.
 #[derive(Debug, Drop, PartialEq, Eq)]
 pub enum Token {
+    /// A line end outside of brackets and fields, or the text's end.
     Newline,
+    /// The blanks of a line that is deeper than those before it.
     Indent,
+    /// The end of what such a line began.
     Dedent,
     /// All behind the `#`, up to the line's end.
     Comment(String),
+    /// Its text, which is no keyword.
     Identifier(String),
     Int(TokenInt),
     /// The text of a float literal.
     Float(String),
+    /// What a literal of text denotes.
     String(String),
+    /// What a literal of bytes denotes.
     Bytes(Vec<u8>),
+    /// The prefix and quotes that an f-string begins with.
     FStringStart(FStringQuote),
+    /// What the text of an f-string before, between and behind its fields denotes.
     FStringText(String),
+    /// The brace that opens a field.
     FStringExprStart,
+    /// The exclamation mark between the expression of a field and its conversion.
     FStringBang,
+    /// The brace that closes a field.
     FStringExprEnd,
+    /// The quotes that an f-string ends with.
     FStringEnd,
     And,
     Break,

@@ -1,19 +1,19 @@
 -- The statements of a text begin one behind the other.
-use Rattle.std.proofs.Common.{◌≡◌, ◌<◌, ◌≤◌, ◌⊎◌, ℕ, ◌+◌, ◌-◌, zero, suc, List, [], ◌∷◌, ◌++◌, length, map, get_or, cond, not, Bool, true, false, refl, ap, append_assoc, sym, ◌∙◌, arith, subst, inl, inr}
-use Rattle.std.specs.Prelude.{Option, Some, None}
+use Rattle.std.proofs.Common.{◌≡◌, ◌<◌, ◌≤◌, ◌⊎◌, ℕ, ◌+◌, ◌-◌, zero, suc, List, [], ◌∷◌, ◌++◌, length, map, get_or, cond, not, true, refl, ap, append_assoc, sym, ◌∙◌, arith, subst, inl, inr}
+use Rattle.std.specs.Prelude.{None}
 use Rattle.std.proofs.lemmas.Bool.{cases_Bool}
 use Rattle.std.proofs.lemmas.Bool.Decides.{nat_tests}
 use Rattle.starlark_place.specs.Place.{is_feed, is_continuation, line_at, column_at}
 use Rattle.starlark_place.specs.Resolved.{resolved}
 use Rattle.starlark_place.specs.declared.resolved.ResolvedPos.{ResolvedPos}
-use Rattle.starlark_lexer.specs.Items.{Item, Stop, Lexed, item, newline}
+use Rattle.starlark_lexer.specs.Items.{Item, Lexed, item, newline}
 use Rattle.starlark_lexer.specs.Lex.{Lex}
 use Rattle.starlark_lexer.specs.Lex as lex
-use Rattle.starlark_lexer.specs.Order.{InOrder, IsName, IsFirm, AreFirm}
+use Rattle.starlark_lexer.specs.Order.{InOrder, IsName, AreFirm}
 use Rattle.starlark_lexer.specs.declared.dialect.Dialect.{Dialect}
 use Rattle.starlark_outline.specs.Ascending.{IsBefore, AllBehind, IsAscending}
 use Rattle.starlark_outline.specs.Grammar.{Level, name, number, apply, above, Statement, evaluate, set, Statements, nothing, line, stmt}
-use Rattle.starlark_outline.specs.Language.{Language, without_comments}
+use Rattle.starlark_outline.specs.Language.{without_comments}
 use Rattle.starlark_outline.specs.Parts.{IsOutline, item_of, stands}
 use Rattle.starlark_outline.specs.Raw.{Raw, RawStmt}
 use Rattle.starlark_outline.specs.Raw as raw

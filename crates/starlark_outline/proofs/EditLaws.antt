@@ -1,12 +1,12 @@
 -- What of outlines and edits can hold together.
-use Rattle.std.proofs.Common.{◌≡◌, ◌<◌, ◌≤◌, ◌⊎◌, ℕ, List, length, map, inl, inr, zero, suc, [], ◌∷◌, refl, ap, sym, ◌∙◌, arith, subst}
+use Rattle.std.proofs.Common.{◌≡◌, ◌≤◌, ◌⊎◌, ℕ, List, length, map, inl, inr, zero, suc, [], ◌∷◌, refl, ap, sym, ◌∙◌, arith, subst}
 use Rattle.std.specs.List.{insert, remove}
 use Rattle.starlark_place.specs.Place.{Extent}
 use Rattle.starlark_place.specs.Resolved.{resolved_span}
 use Rattle.starlark_lexer.specs.declared.dialect.Dialect.{Dialect}
 use Rattle.starlark_outline.specs.Kept.{joined}
 use Rattle.starlark_outline.specs.Language.{Fault, IsRefusal, Language, fault}
-use Rattle.starlark_outline.specs.Parts.{IsOutline, Refuses, Takes, IsAddressed, item_of, kind_of, index, utf8, long, parse, not_closed, memory}
+use Rattle.starlark_outline.specs.Parts.{IsOutline, Refuses, Takes, item_of, kind_of, index, utf8, long, parse, not_closed, memory}
 use Rattle.starlark_outline.specs.Raw.{RawStmt}
 use Rattle.starlark_outline.specs.declared.parse.ParserError.{ParserError}
 use Rattle.starlark_outline.specs.declared.parts.OutlineItem.{OutlineItem}

@@ -3,8 +3,8 @@ use Rattle.std.proofs.Common.{◌≡◌, ℕ, false, List, [], ◌∷◌, refl}
 use Rattle.starlark_place.specs.Place.{extent}
 use Rattle.starlark_lexer.specs.Items.{Lexeme, Item, item, Number, big, newline, identifier, integer, equal, opening_round, closing_round, comma}
 use Rattle.starlark_outline.specs.declared.parse.Rule.TheVariants.{InvalidLhs}
-use Rattle.starlark_outline.specs.Raw.{Raw, ident, int, call, none, more, RawStmt, expression, assign}
-use Rattle.starlark_outline.specs.Grammar.{Level, name, number, apply, above, empty, some, trailing, one, next, evaluate, set, nothing, line, stmt, Derives}
+use Rattle.starlark_outline.specs.Raw.{Raw, ident, int, call, none, more, expression, assign}
+use Rattle.starlark_outline.specs.Grammar.{Level, name, number, apply, above, empty, trailing, one, next, evaluate, set, nothing, line, stmt, Derives}
 use Rattle.starlark_outline.specs.Marks.{breaks, mark, in_statements}
 use Rattle.starlark_outline.specs.Machine.{between, judge, run, Fine, Unexpected, Broken}
 

@@ -1,6 +1,6 @@
 -- A part, and lists of parts.
 use Rattle.std.proofs.Common.{◌≡◌, ◌<◌, ◌≤◌, Fits, w64, ℕ, ◌+◌, zero, suc, List, [], ◌∷◌, ◌++◌, length, map, take, drop, get_or, add-zero, append_assoc, cond, refl, ap, sym, ◌∙◌, arith, subst}
-use Rattle.std.specs.Prelude.{count_by, Result, Err}
+use Rattle.std.specs.Prelude.{Result, Err}
 use Rattle.std.proofs.Common.{Global, Vec}
 use Rattle.std.proofs.lemmas.List.{take-append-drop, take_more, append-nil}
 use Rattle.std.proofs.lemmas.List.Sums.{sum_by-append, sum_by-cons}
@@ -9,7 +9,7 @@ use Rattle.starlark_outline.specs.declared.tree.AstStmt.{AstStmt}
 use Rattle.starlark_outline.specs.declared.tree.Extent.{Extent}
 use Rattle.starlark_lexer.specs.Joining.{IsClosed}
 use Rattle.starlark_lexer.specs.declared.dialect.Dialect.{Dialect}
-use Rattle.starlark_outline.specs.Held.{IsPart, AreParts, AllAbove, RefusesText, refusal_of, text_of, texts_of, feeds_of, outline_from}
+use Rattle.starlark_outline.specs.Held.{IsPart, AreParts, AllAbove, RefusesText, refusal_of, text_of, feeds_of, outline_from}
 use Rattle.starlark_outline.specs.Joining.{feeds, items_down}
 use Rattle.starlark_outline.specs.Language.{IsRefusal, Language, fault}
 use Rattle.starlark_outline.specs.Parts.{IsOutline, item_of, stands}

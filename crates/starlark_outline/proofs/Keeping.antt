@@ -1,5 +1,5 @@
 -- What an edit does to the parts that are held, and the outline of all of them.
-use Rattle.std.proofs.Common.{◌≡◌, ◌<◌, ◌≤◌, ℕ, ◌+◌, ◌-◌, zero, suc, List, [], ◌∷◌, ◌++◌, length, map, take, drop, add-zero, append_assoc, length-append, refl, ap, sym, ◌∙◌, arith, subst}
+use Rattle.std.proofs.Common.{◌≡◌, ◌<◌, ◌≤◌, ℕ, ◌+◌, ◌-◌, zero, suc, List, [], ◌∷◌, ◌++◌, length, take, drop, append_assoc, length-append, refl, ap, sym, ◌∙◌, arith, subst}
 use Rattle.std.specs.List.{insert}
 use Rattle.std.specs.Str.{IsUtf8}
 use Rattle.std.proofs.lemmas.Grind.{flat_map-append}
@@ -20,7 +20,7 @@ use Rattle.starlark_outline.specs.declared.parts.OutlineItem.{OutlineItem}
 use Rattle.starlark_outline.specs.declared.parts.PartFault.{PartFault}
 use Rattle.starlark_outline.specs.declared.parts.PartFault.TheVariants as faults
 use Rattle.starlark_outline.specs.declared.parts.Parts.TheInside.{Inside}
-use Rattle.starlark_outline.proofs.Held.{feeds_of-append, feeds_of-cons, outline_from-append}
+use Rattle.starlark_outline.proofs.Held.{feeds_of-cons, outline_from-append}
 
 -- ---- outlines
 

@@ -1,12 +1,12 @@
 -- The tokens of a text among its items, which have comments too.
-use Rattle.std.proofs.Common.{◌≡◌, ◌≤◌, ℕ, ◌+◌, zero, suc, List, [], ◌∷◌, ◌++◌, map, cond, Bool, true, false, ◌&&◌, ◌||◌, refl, ap, sym, ◌∙◌, arith, subst, inl, inr}
+use Rattle.std.proofs.Common.{◌≡◌, ◌≤◌, ℕ, ◌+◌, zero, List, [], ◌∷◌, ◌++◌, map, cond, Bool, true, false, ◌&&◌, ◌||◌, refl, ap, sym, ◌∙◌, arith, subst, inl, inr}
 use Rattle.std.specs.Prelude.{Option, Some, None, count_by}
 use Rattle.std.proofs.lemmas.Bool.{cases_Bool}
 use Rattle.std.proofs.lemmas.List.Sums.{sum_by-cons}
 use Rattle.starlark_lexer.specs.Items.{Lexeme, newline, identifier, integer, equal, opening_round, closing_round, comma, comment, Item, Stop, is_newline, is_opening, is_closing, opening_item, closing_item}
 use Rattle.starlark_lexer.specs.Joining.{item_on, nested, outside, open_behind, IsEven, begins_line, is_dedent, dedent_item}
 use Rattle.starlark_lexer.specs.Joining as lexer
-use Rattle.starlark_lexer.specs.Order.{InOrder, IsFirm, AreFirm}
+use Rattle.starlark_lexer.specs.Order.{InOrder, AreFirm}
 use Rattle.starlark_outline.specs.Raw.{Raw, Raws, RawStmt}
 use Rattle.starlark_outline.specs.Grammar.{Level, name, number, apply, above, Arguments, empty, some, trailing, Tests, one, next, Statement, evaluate, set, Statements, nothing, line, stmt}
 use Rattle.starlark_outline.specs.Joining.{EndsLine}

@@ -1,11 +1,10 @@
 -- What the list of parts holds.
-use Rattle.std.specs.Prelude.{◌≡◌, ◌≤◌, ℕ, ◌+◌, List, [], ◌∷◌, ◌++◌, length, map, sum_by, Bool, not, ◌&&◌, eqb, Result, Ok, Err}
+use Rattle.std.specs.Prelude.{◌≡◌, ◌≤◌, ℕ, ◌+◌, List, [], ◌∷◌, ◌++◌, map, sum_by}
 use Rattle.starlark_place.specs.Place.{Extent, extent}
 use Rattle.starlark_place.specs.Resolved.{resolved_span}
 use Rattle.starlark_lexer.specs.Joining.{IsClosed}
 use Rattle.starlark_lexer.specs.declared.dialect.Dialect.{Dialect}
 use Rattle.starlark_outline.specs.Joining.{feeds, items_down}
-use Rattle.starlark_outline.specs.Kept.{Kept, joined}
 use Rattle.starlark_outline.specs.Language.{Language, IsRefusal, fault}
 use Rattle.starlark_outline.specs.Parts.{IsOutline, kind_of}
 use Rattle.starlark_outline.specs.Raw.{RawStmt}

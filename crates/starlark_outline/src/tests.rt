@@ -1,6 +1,9 @@
 //! Scripts that are run whole, devices that fail, and how the program tells the way a run ended.
 
 use super::*;
+use crate::parse::{ParserError, Rule};
+use crate::parts::{FaultKind, PartFault};
+use starlark_place::resolved::{ResolvedPos, ResolvedSpan};
 use std::io;
 use std::io::{Read, Write};
 use std::test::Fail;
@@ -265,4 +268,39 @@ fn statuses(rt: HostRuntime) {
         assert_eq!(rt; status(&Err(fault)), 1);
         assert_eq!(rt; fault_line(&fault), line);
     }
+}
+
+/// What faults print.
+#[test]
+fn messages(rt: HostRuntime) -> Result<(), Fail> {
+    for (fault, text) in [
+        (RunFault::Read, "a read failed"),
+        (RunFault::Write, "a write failed"),
+        (RunFault::Memory, "out of memory"),
+    ] {
+        assert_eq!(rt; format!(in rt.alloc(); "{fault}")?.as_str(), text);
+    }
+    let span = ResolvedSpan {
+        begin: ResolvedPos { line: 0, column: 4 },
+        end: ResolvedPos { line: 0, column: 8 },
+    };
+    for (fault, text) in [
+        (PartFault::Index, "there is no part at that index"),
+        (PartFault::Utf8, "the bytes are not UTF-8"),
+        (PartFault::Long, "the joined text would be too long"),
+        (
+            PartFault::Parse(FaultKind::Lexer, span),
+            "the text is refused at 1:5-9",
+        ),
+        (PartFault::Open, "the text is open"),
+        (PartFault::Memory, "out of memory"),
+    ] {
+        assert_eq!(rt; format!(in rt.alloc(); "{fault}")?.as_str(), text);
+    }
+    let fault = ParserError::Rule(Rule::InvalidLhs);
+    assert_eq!(rt;
+        format!(in rt.alloc(); "{fault}")?.as_str(),
+        "the left side of an assignment is no identifier"
+    );
+    Ok(())
 }

@@ -1,6 +1,6 @@
-use Rattle.std.proofs.Common.{◌≤◌, ap, subst, sym, arith}
+use Rattle.std.proofs.Common.{ap, subst, sym, arith}
 use Rattle.starlark_outline.specs.Cursor.{IsAt}
-use Rattle.starlark_outline.proofs.Places.{at_behind, column_few, line_few}
+use Rattle.starlark_outline.proofs.Places.{at_behind, column_few}
 use Rattle.starlark_outline.proofs.cursor.reach.Goals as goal
 
 pub behind-cursor-requires-clause-column : goal.behind-cursor-requires-clause-column

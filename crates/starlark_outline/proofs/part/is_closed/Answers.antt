@@ -1,8 +1,7 @@
-use Rattle.std.proofs.Common.{◌≡◌, Bool, true, false, not, ℕ, List, refl, rules, sym, ◌∙◌, ap}
+use Rattle.std.proofs.Common.{◌≡◌, Bool, true, false, not, ℕ, List, refl, rules, sym, ◌∙◌}
 use Rattle.std.specs.Prelude.{IsTrue}
-use Rattle.std.proofs.lemmas.Bool.{false≢true, cases_Bool}
-use Rattle.starlark_lexer.specs.Joining.{IsClosed}
-use Rattle.starlark_outline.proofs.Closed.{closed, ends, no_escape, no_escape_cr}
+use Rattle.std.proofs.lemmas.Bool.{false≢true}
+use Rattle.starlark_outline.proofs.Closed.{closed, no_escape, no_escape_cr}
 use Rattle.starlark_outline.proofs.part.is_closed.Goals as goal
 
 pub returns-then-ends_with : goal.returns-then-ends_with

@@ -1,11 +1,10 @@
-use Rattle.std.proofs.Common.{◌≡◌, ◌<◌, ◌≤◌, ◌+◌, ◌-◌, ◌∙◌, ℕ, List, ap, arith, length, refl, rules, subst, sym}
+use Rattle.std.proofs.Common.{◌≡◌, ◌+◌, ◌∙◌, ℕ, List, ap, arith, length, refl, subst, sym}
 use Rattle.std.specs.List.{insert}
-use Rattle.std.specs.Str.{IsUtf8}
 use Rattle.std.proofs.lemmas.Result.{err_from_is_err_and}
-use Rattle.starlark_outline.specs.Held.{IsPart, RefusesText, outline_from, text_of, texts_of}
+use Rattle.starlark_outline.specs.Held.{RefusesText, outline_from, texts_of}
 use Rattle.starlark_outline.specs.Holding.{kept}
 use Rattle.starlark_outline.specs.Kept.{joined}
-use Rattle.starlark_outline.specs.Parts.{HasOutline, IsAddressed, Refuses, memory}
+use Rattle.starlark_outline.specs.Parts.{HasOutline, IsAddressed, memory}
 use Rattle.starlark_outline.specs.declared.parts.Parts.TheInside.{Inside}
 use Rattle.starlark_outline.proofs.Keeping.{addressed, feeds_fit, held_after, held_has, no_index, no_text, refused, taken, texts_after, too_long}
 use Rattle.starlark_outline.proofs.parts.Parts.insert.Goals as goal
