@@ -117,7 +117,7 @@ text_cuts rest f = by_ending (body f 0 rest) (body_within f rest)
 
 pub here_cuts : (m : Mode) (rest : List ℕ) → Cuts rest (here m rest)
 unfolding here
-here_cuts m [] = omega arith
+here_cuts m [] = refl
 here_cuts m (b ∷ bs) =
     elim (cases_Bool (eqb b 10)) [
       | inl e ↦ rw e (within_whole (b ∷ bs) 1 (omega arith) (omega arith))
@@ -145,7 +145,9 @@ fits_cuts rest ws w g le =
 
 line_from_cuts : (ws rest xs : List ℕ) → drop (leading rest) rest ≡ xs → Cuts rest (line_from ws (blanks rest) (leading rest) xs)
 unfolding line_from
-line_from_cuts ws rest [] e = prefix_len-le-length _ rest
+line_from_cuts ws rest [] e =
+    let le : leading rest ≤ length rest = prefix_len-le-length _ rest in
+    omega (arith, ap length e, length-drop (leading rest) rest)
 line_from_cuts ws rest (b ∷ bs) e =
     let g = leading rest in
     let le : g ≤ length rest = prefix_len-le-length _ rest in

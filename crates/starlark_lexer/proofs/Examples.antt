@@ -6,7 +6,8 @@ use Rattle.starlark_lexer.specs.Items.{identifier, float, keyword_if, plus_equal
 use Rattle.starlark_lexer.specs.Classes.{meaning, keyword_of, is_reserved, token, refused, operator_of, line_end, line_len, escaped, width}
 use Rattle.starlark_lexer.specs.Literals.{opening_of, read, piece, escape, raw_escape}
 use Rattle.starlark_lexer.specs.Number.{number}
-use Rattle.starlark_lexer.specs.Format.{parsed, turn, text, capture, escape as brace}
+use Rattle.starlark_lexer.specs.Format.{text, capture, escape as brace}
+use Rattle.starlark_lexer.specs.FormatScan.{parsed, turn}
 use Rattle.starlark_lexer.specs.declared.token.LexemeError.TheVariants.{ReservedKeyword, StartsZero}
 use Rattle.starlark_lexer.specs.declared.literal.Form.{Form}
 use Rattle.starlark_lexer.specs.declared.literal.Ending.TheVariants as ending

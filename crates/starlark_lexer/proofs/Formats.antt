@@ -12,7 +12,8 @@ use Rattle.starlark_lexer.specs.declared.format.FormatConv.{FormatConv}
 use Rattle.starlark_lexer.specs.declared.format.Turn.{Turn}
 use Rattle.starlark_lexer.specs.declared.format.Turn.TheVariants.{Over, Text, Escape, Capture, Fault}
 use Rattle.starlark_lexer.specs.declared.format.FormatError.{FormatError}
-use Rattle.starlark_lexer.specs.Format.{Format, Part, text, capture, escape, nothing, with_part, plain, begins, name_len, conversion, by_conversion, opens, turn, by_turn, parsed, IsOver, IsFirst, IsError}
+use Rattle.starlark_lexer.specs.Format.{Format, Part, text, capture, escape, nothing, with_part, plain, begins, name_len, conversion, IsOver, IsFirst, IsError}
+use Rattle.starlark_lexer.specs.FormatScan.{by_conversion, opens, turn, by_turn, parsed}
 
 -- ---- where a text may be cut
 
@@ -104,7 +105,7 @@ opens_cuts b bs l =
 plain_some : (b : ℕ) (bs : List ℕ) → eqb b 123 ≡ false → eqb b 125 ≡ false → 0 < plain (b ∷ bs)
 plain_some b bs e d = rw (e, d) (omega arith)
 
-text_turn : (b : ℕ) (bs : List ℕ) → eqb b 123 ≡ false → eqb b 125 ≡ false → turn (b ∷ bs) ≡ Text (plain (b ∷ bs))
+pub text_turn : (b : ℕ) (bs : List ℕ) → eqb b 123 ≡ false → eqb b 125 ≡ false → turn (b ∷ bs) ≡ Text (plain (b ∷ bs))
 unfolding turn
 text_turn b bs e f =
     let doubled = cond (begins 125 bs) (Escape Close) (Fault Standalone) in

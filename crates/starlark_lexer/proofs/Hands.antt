@@ -1,5 +1,5 @@
 -- What a call hands out, by the turn that comes.
-use Rattle.std.proofs.Common.{◌≡◌, ◌<◌, ℕ, ◌+◌, ◌-◌, Bool, true, false, cond, List, [], ◌∷◌, ◌++◌, length, take, drop, ap, sym, ◌∙◌, arith, suc, subst, length-drop, IsUtf8, is_ok}
+use Rattle.std.proofs.Common.{◌≡◌, ℕ, ◌+◌, ◌-◌, Bool, true, false, cond, List, [], ◌∷◌, ◌++◌, length, take, drop, ap, sym, ◌∙◌, arith, suc, subst, length-drop, IsUtf8, is_ok}
 use Rattle.std.specs.Prelude.{Result, Ok, Err}
 use Rattle.std.specs.Result.{is_err}
 use Rattle.std.proofs.lemmas.Bool.{false≢true}
@@ -16,7 +16,7 @@ use Rattle.starlark_lexer.specs.declared.scan.Turn.TheVariants as turns
 use Rattle.starlark_lexer.specs.declared.token.LexemeError.{LexemeError}
 use Rattle.starlark_lexer.specs.declared.token.LexemeError.TheVariants.{InvalidTab, UnfinishedStringLiteral}
 use Rattle.starlark_lexer.specs.declared.parts.Parts.{Parts}
-use Rattle.starlark_lexer.specs.Items.{Lexeme, nothing, newline, indent, dedent, fstring_start, fstring_end, fstring_expr_start, fstring_expr_end, with_item, with_items, with_fault, dedents, answers}
+use Rattle.starlark_lexer.specs.Items.{Lexeme, nothing, newline, indent, dedent, fstring_start, fstring_end, fstring_expr_start, fstring_expr_end, with_item, with_items, with_fault, dedents, answers, takes_memory, next_takes, LacksMemory}
 use Rattle.starlark_lexer.specs.Literals.{body, is_format}
 use Rattle.starlark_lexer.specs.Scan.{At, act, follow, left_at, skip, after, turned, last_mode, field_of, body_of, begin_of, lexeme_from, line_turn, here, text_turn, goes_by, in_text, is_joined, gap, pass}
 use Rattle.starlark_lexer.specs.Parts.{at, left, IsMode, IsWhole, IsReady, Comes, Stands}
@@ -63,8 +63,14 @@ item_left a t i k n next f h c e s v is x =
     let ready : IsReady b = record { none = h.none; more = h.more } in
     turn_left a t _ h c e ∙ (λ j. with_item (a.state.place + i) (same j) (a.state.place + i + n) (left_at (later j))) ∙ ap (with_item (a.state.place + i) v (a.state.place + i + n)) (sym (ready_left b ready))
 
-pub item_some : (a : Parts) (t : Turn) (i : ℕ) (k : Kind) (n next : ℕ) (f : Bool) → IsReady a → Comes a t → t ≡ turns.Gives i k n next f → 0 < answers (left a)
-item_some a t i k n next f h c e = omega (arith, ap answers (turn_left a t _ h c e))
+pub item_lacks : (a : Parts) (t : Turn) (i : ℕ) (k : Kind) (n next : ℕ) (f : Bool) → IsReady a → Comes a t → t ≡ turns.Gives i k n next f
+    → takes_memory (lexeme_from k (take n (drop (a.state.place + i) a.text.now))) ≡ true → LacksMemory (left a)
+item_lacks a t i k n next f h c e m =
+    let text : take n (drop i (drop a.state.place a.text.now)) ≡ take n (drop (a.state.place + i) a.text.now) = ap (take n) (drop-drop i a.state.place a.text.now) in
+    record {
+      some = omega (arith, ap answers (turn_left a t _ h c e));
+      takes = ap (λ l. next_takes l.items l.fault) (turn_left a t _ h c e) ∙ ap (λ w. takes_memory (lexeme_from k w)) text ∙ m;
+    }
 
 -- behind a turn of n bytes to the mode m, with os around it
 module _ (a : Parts) (n : ℕ) (m : Mode) (os : List Mode) (h : IsReady a) where
@@ -77,8 +83,8 @@ module _ (a : Parts) (n : ℕ) (m : Mode) (os : List Mode) (h : IsReady a) where
       let same : behind ≡ at b = λ i. record { state = sym state i; widths = sym widths i; outer = sym outer i; rest = rest i } in
       ap left_at same ∙ sym (ready_left b (record { none = none; more = more }))
 
-pub enter_some : (a : Parts) (t : Turn) (f : Form) (n : ℕ) → IsReady a → Comes a t → t ≡ turns.Enter f n → 0 < answers (left a)
-enter_some a t f n h c e = omega (arith, ap answers (turn_left a t _ h c e))
+pub enter_lacks : (a : Parts) (t : Turn) (f : Form) (n : ℕ) → IsReady a → Comes a t → t ≡ turns.Enter f n → LacksMemory (left a)
+enter_lacks a t f n h c e = record { some = omega (arith, ap answers (turn_left a t _ h c e)); takes = ap (λ l. next_takes l.items l.fault) (turn_left a t _ h c e) }
 
 pub enter_left : (a : Parts) (t : Turn) (f : Form) (n : ℕ) → IsReady a → Comes a t → t ≡ turns.Enter f n → (b : Parts) → b.text.now ≡ a.text.now → b.widths.items ≡ a.widths.items
     → b.outer.items ≡ a.outer.items ++ a.state.mode ∷ [] → b.state ≡ turned a.state n (mode.Inside a.state.place f) → b.pending ≡ 0 → b.over ≡ false
@@ -129,8 +135,8 @@ module _ (a : Parts) (t : Turn) (h : IsReady a) (c : Comes a t) where
       fits_open k g e (suc b.pending) len b text widths outer state
       ∙ (λ i. with_item a.state.place dedent a.state.place (with_items (dedents (sym margin i) b.pending) (cond (sym more i) nothing (left_at (at b)))))
 
-  pub deeper_some : (w g : ℕ) → t ≡ turns.Deeper w g → 0 < answers (left a)
-  deeper_some w g e = omega (arith, ap answers (turn_left a t _ h c e))
+  pub deeper_lacks : (w g : ℕ) → t ≡ turns.Deeper w g → LacksMemory (left a)
+  deeper_lacks w g e = record { some = omega (arith, ap answers (turn_left a t _ h c e)); takes = ap (λ l. next_takes l.items l.fault) (turn_left a t _ h c e) }
 
   pub deeper_left : (w g : ℕ) → t ≡ turns.Deeper w g → (b : Parts) → b.text.now ≡ a.text.now → b.widths.items ≡ a.widths.items ++ w ∷ []
       → b.outer.items ≡ a.outer.items → b.state ≡ turned a.state g a.state.mode → b.pending ≡ 0 → b.over ≡ false → left a ≡ with_item a.state.place indent (a.state.place + g) (left b)

@@ -3,8 +3,10 @@ pub mod Gaps
 pub mod Modes
 mod Numbers
 mod Formats
+mod Reading
 mod Digits
 mod Pieces
+mod Looks
 mod Bodies
 mod Values
 mod Openings

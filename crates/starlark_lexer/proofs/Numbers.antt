@@ -8,7 +8,7 @@ use Rattle.std.specs.Int.RustNames.{FitsSigned}
 use Rattle.std.specs.List.{prefix_len}
 use Rattle.std.specs.Str.{IsCharBoundary}
 use Rattle.starlark_lexer.specs.Number.{is_small, shortest, number, value}
-use Rattle.starlark_lexer.specs.Items.{small, big}
+use Rattle.starlark_lexer.specs.Items.{small, big, is_big}
 use mir.Val.{to_z, of_z}
 use Rattle.std.proofs.lemmas.Int.{to_z-of_z}
 
@@ -30,6 +30,10 @@ small_number negative base ds z e h =
 pub big_number : (negative : Bool) (base : ℕ) (ds text : List ℕ) → text ≡ shortest ds → is_small (value negative base ds) ≡ false → big text negative base ≡ number negative base ds
 unfolding number
 big_number negative base ds text e h = ap (λ t. big t negative base) e ∙ rw h refl
+
+-- the digits of one that does not fit take memory
+pub big_takes : (negative : Bool) (base : ℕ) (ds : List ℕ) → is_small (value negative base ds) ≡ false → is_big (number negative base ds) ≡ true
+big_takes negative base ds h = ap is_big (sym (big_number negative base ds (shortest ds) refl h))
 
 -- ---- where a text may be cut
 

@@ -129,6 +129,7 @@ after_sound text s outer margin i k n next f h w c =
       mode = mode_on text s.mode k s.place next pos there h.mode;
       around = modes_more text s.place (s.place + next) (omega arith) there outer h.around;
       dedents = h.dedents;
+      behind = omega (arith, h.behind);
       starts = h.starts;
     }
 
@@ -146,6 +147,7 @@ turned_sound text s outer os margin n m h c mode others =
       mode = mode there;
       around = others there;
       dedents = h.dedents;
+      behind = omega (arith, h.behind);
       starts = h.starts;
     }
 
@@ -163,6 +165,7 @@ ended_sound text bytes s outer margin same h =
       mode = mode_more text s.place (length bytes) le there s.mode h.mode;
       around = modes_more text s.place (length bytes) le there outer h.around;
       dedents = there;
+      behind = omega arith;
       starts = h.starts;
     }
 
@@ -196,5 +199,5 @@ module _ (text : List ℕ) (s : State) (outer : List Mode) (margin : ℕ) (h : I
   unfinished_stretch n (mode.Field k f d) ok b is c = subst (λ b. IsStretch text b (s.place + n)) (sym is) (stretch_more text k s.place (s.place + n) ok.0 (omega arith) (on text s.place h.boundary n c))
 
 -- dedents stand at another place
-pub with_margin : (text : List ℕ) (s : State) (outer : List Mode) (margin n : ℕ) → IsCharBoundary text n → IsSound text s outer margin → IsSound text s outer n
-with_margin text s outer margin n c h = record { opened = h.opened; closed = h.closed; boundary = h.boundary; line = h.line; mode = h.mode; around = h.around; dedents = c; starts = h.starts }
+pub with_margin : (text : List ℕ) (s : State) (outer : List Mode) (margin n : ℕ) → IsCharBoundary text n → n ≤ s.place → IsSound text s outer margin → IsSound text s outer n
+with_margin text s outer margin n c le h = record { opened = h.opened; closed = h.closed; boundary = h.boundary; line = h.line; mode = h.mode; around = h.around; dedents = c; behind = le; starts = h.starts }

@@ -106,6 +106,25 @@ first_right (r ∷ rs) xs h =
 pub operators_right : (xs : List ℕ) → Right operators xs (first_row operators xs)
 operators_right xs = first_right operators xs refl
 
+-- ---- how long an operator is
+
+abbrev len_of : Option (Operator × ℕ) → ℕ
+len_of None = 0
+len_of (Some x) = x.1
+
+first_short : (n : ℕ) (table : List Row) (xs : List ℕ) → at_most n table ≡ true → len_of (first_row table xs) ≤ n
+first_short n [] xs h = omega arith
+first_short n (r ∷ rs) xs h =
+    let b1 = both (nat_lt 0 (length r.0) && nat_le (length r.0) n) (at_most n rs) h in
+    let b2 = both (nat_lt 0 (length r.0)) (nat_le (length r.0) n) b1.0 in
+    elim (cases_Bool (starts_with nat_eq xs r.0)) [
+      | inl e ↦ rw e (leb-true (length r.0) n b2.1)
+      | inr e ↦ rw e (first_short n rs xs b1.1)
+    ]
+
+pub row_short : (xs : List ℕ) (o : Operator) (n : ℕ) → Some (o, n) ≡ first_row operators xs → n ≤ 3
+row_short xs o n e = omega (arith, ap len_of e, first_short 3 operators xs refl)
+
 -- ---- what an operator begins with
 
 abbrev pub begins_operator : ℕ → Bool

@@ -1,5 +1,5 @@
--- Format strings: what they are read as, from the left.
-use Rattle.std.specs.Prelude.{◌≡◌, ℕ, zero, suc, ◌+◌, ◌-◌, Bool, false, not, ◌||◌, if◌then◌else◌, ◌==◌, List, [], ◌∷◌, ◌++◌, length, take, drop, codes, Option, Some, None, Result, Ok, Err}
+-- Format strings: what they are read as, rule by rule from the left.
+use Rattle.std.specs.Prelude.{◌≡◌, ℕ, ◌+◌, Bool, true, false, not, ◌||◌, if◌then◌else◌, ◌==◌, List, [], ◌∷◌, ◌++◌, length, take, drop, codes, Option, Some, None, Result, Ok, Err}
 use Rattle.std.specs.List.{prefix_len}
 use Rattle.starlark_lexer.specs.declared.format.EscapeCurlyBrace.{EscapeCurlyBrace}
 use Rattle.starlark_lexer.specs.declared.format.EscapeCurlyBrace.TheVariants.{Open, Close}
@@ -10,8 +10,6 @@ use Rattle.starlark_lexer.specs.declared.format.FormatErrorKind.{FormatErrorKind
 use Rattle.starlark_lexer.specs.declared.format.FormatErrorKind.TheVariants.{Standalone, Unmatched, Conversion}
 use Rattle.starlark_lexer.specs.declared.format.FormatToken.{FormatToken}
 use Rattle.starlark_lexer.specs.declared.format.FormatToken.TheVariants as token
-use Rattle.starlark_lexer.specs.declared.format.Turn.{Turn}
-use Rattle.starlark_lexer.specs.declared.format.Turn.TheVariants.{Over, Text, Escape, Capture, Fault}
 
 -- A token without where its text lies in memory.
 pub data Part : Type 0 where
@@ -61,40 +59,40 @@ conversion (b ∷ []) = None
 conversion (b ∷ c ∷ []) = if c == 115 then Some Str else (if c == 114 then Some Repr else None)
 conversion (b ∷ c ∷ d ∷ w) = None
 
-abbrev pub by_conversion : Option FormatConv → ℕ → ℕ → Turn
-by_conversion (Some c) n len = Capture n c len
-by_conversion None n len = Fault Conversion
-
--- A capture with that between its braces.
-abbrev pub named : List ℕ → Turn
-named inside = by_conversion (conversion (drop (name_len inside) inside)) (name_len inside) (length inside + 2)
-
--- A brace opens a capture, which runs to the next closing one, with no other between them.
-abbrev pub opens : List ℕ → Turn
-opens rest = if begins 125 (drop (plain rest) rest) then named (take (plain rest) rest) else Fault Unmatched
-
--- Two braces of one kind are an escape, and a closing one by itself is no token. The rest is text up to the next brace.
-unfoldable pub turn : List ℕ → Turn
-turn [] = Over
-turn (b ∷ bs) =
-    if b == 123 then (if begins 123 bs then Escape Open else opens bs)
-    else (if b == 125 then (if begins 125 bs then Escape Close else Fault Standalone)
-    else Text (plain (b ∷ bs)))
-
 -- ---- the whole
 
-abbrev pub by_turn : Turn → ℕ → List ℕ → (ℕ → Parsed) → Parsed
-by_turn Over i rest go = nothing
-by_turn (Text n) i rest go = with_part (text (take n rest)) (go n)
-by_turn (Escape e) i rest go = with_part (escape e) (go 2)
-by_turn (Capture n conv len) i rest go = with_part (capture (take n (drop 1 rest)) (i + 1) conv) (go len)
-by_turn (Fault k) i rest go = stops k
+-- a brace of either kind
+abbrev pub is_brace : ℕ → Bool
+is_brace b = b == 123 || b == 125
 
--- The rest of a format string at the place i, n bytes on.
-unfoldable pub parsed : ℕ → ℕ → List ℕ → Parsed
-parsed i n [] = nothing
-parsed i (suc n) (b ∷ bs) = parsed (i + 1) n bs
-parsed i zero (b ∷ bs) = by_turn (turn (b ∷ bs)) i (b ∷ bs) (λ k. parsed (i + 1) (k - 1) bs)
+-- what stands between an opening brace, which these bytes stand behind, and the next brace
+abbrev pub inside : List ℕ → List ℕ
+inside bs = take (plain bs) bs
+
+-- the next brace is a closing one
+abbrev pub is_closed : List ℕ → Bool
+is_closed bs = begins 125 (drop (plain bs) bs)
+
+-- what stands behind the name of a capture
+abbrev pub behind_name : List ℕ → List ℕ
+behind_name w = drop (name_len w) w
+
+-- What the rest of a format string at the place i is read as: piece by piece, up to the end or the first error.
+pub data Pieces : ℕ → List ℕ → Parsed → Type 0 where
+  ends : (i : ℕ) → Pieces i [] nothing
+  -- two braces of one kind
+  opening : (i : ℕ) (rest : List ℕ) (p : Parsed) → Pieces (i + 2) rest p → Pieces i (123 ∷ 123 ∷ rest) (with_part (escape Open) p)
+  closing : (i : ℕ) (rest : List ℕ) (p : Parsed) → Pieces (i + 2) rest p → Pieces i (125 ∷ 125 ∷ rest) (with_part (escape Close) p)
+  -- the longest run without braces
+  runs : (i b : ℕ) (bs : List ℕ) (p : Parsed) → is_brace b ≡ false → Pieces (i + plain (b ∷ bs)) (drop (plain (b ∷ bs)) (b ∷ bs)) p
+      → Pieces i (b ∷ bs) (with_part (text (take (plain (b ∷ bs)) (b ∷ bs))) p)
+  -- from an opening brace to the next brace, which closes it
+  captures : (i : ℕ) (bs : List ℕ) (conv : FormatConv) (p : Parsed) → is_closed bs ≡ true → conversion (behind_name (inside bs)) ≡ Some conv
+      → Pieces (i + (length (inside bs) + 2)) (drop (length (inside bs) + 2) (123 ∷ bs)) p
+      → Pieces i (123 ∷ bs) (with_part (capture (take (name_len (inside bs)) bs) (i + 1) conv) p)
+  converts_not : (i : ℕ) (bs : List ℕ) → is_closed bs ≡ true → conversion (behind_name (inside bs)) ≡ None → Pieces i (123 ∷ bs) (stops Conversion)
+  unmatched : (i : ℕ) (bs : List ℕ) → begins 123 bs ≡ false → is_closed bs ≡ false → Pieces i (123 ∷ bs) (stops Unmatched)
+  standalone : (i : ℕ) (bs : List ℕ) → begins 125 bs ≡ false → Pieces i (125 ∷ bs) (stops Standalone)
 
 -- ---- answers
 

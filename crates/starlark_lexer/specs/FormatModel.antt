@@ -1,6 +1,7 @@
 -- The model of `FormatParser`: what is left of its format string.
 use Rattle.std.specs.Prelude.{◌-◌, ◌≤◌, length}
-use Rattle.starlark_lexer.specs.Format.{Format, parsed}
+use Rattle.starlark_lexer.specs.Format.{Format}
+use Rattle.starlark_lexer.specs.FormatScan.{parsed}
 use Rattle.starlark_lexer.specs.declared.format.FormatParser.TheInside.{Inside}
 
 abbrev pub view_of : Inside → Format

@@ -1,5 +1,5 @@
 -- The prefix and quotes at the front of a text, as the code finds them.
-use Rattle.std.specs.Prelude.{ℕ, ◌+◌, Bool, false, not, ◌||◌, ◌&&◌, if◌then◌else◌, ◌==◌, ◌≤◌, List, [], ◌∷◌, length, take, drop, Option, Some, None}
+use Rattle.std.specs.Prelude.{ℕ, ◌+◌, Bool, true, false, not, ◌||◌, ◌&&◌, if◌then◌else◌, ◌==◌, ◌≤◌, List, [], ◌∷◌, length, take, drop, Option, Some, None}
 use Rattle.std.specs.Char.{encode_utf8}
 use Rattle.std.specs.Str.{IsCharBoundary}
 use Rattle.starlark_lexer.specs.declared.literal.Ending.{Ending}
@@ -56,6 +56,38 @@ width (Char c n) = n
 width (Byte b n) = n
 width (Same n) = n
 width _ = 0
+
+-- no closing quotes and no field
+abbrev pub is_item : Piece → Bool
+is_item Closing = false
+is_item Field = false
+is_item _ = true
+
+-- how many bytes are passed at a piece, closing quotes and the brace of a field among them
+abbrev pub passed : FStringQuote → Piece → ℕ
+passed q Closing = quotes q
+passed q Field = 1
+passed q (Nothing n) = n
+passed q (Char c n) = n
+passed q (Byte b n) = n
+passed q (Same n) = n
+passed q _ = 0
+
+-- the same of a whole body
+abbrev pub reached : FStringQuote → Ending → ℕ
+reached q (ending.Closed i) = i + quotes q
+reached q (ending.Field i) = i + 1
+reached q (ending.Unfinished i) = i
+reached q (ending.Escape i m) = i
+
+-- how many bytes quotes have, and a prefix with them
+abbrev pub quotes_len : Option FStringQuote → ℕ
+quotes_len None = 0
+quotes_len (Some q) = quotes q
+
+abbrev pub opening_len : Option (Form × ℕ) → ℕ
+opening_len None = 0
+opening_len (Some r) = r.1
 
 -- what a piece denotes that ends none, with the text that it stands at the front of
 abbrev pub denoted : Piece → List ℕ → List ℕ

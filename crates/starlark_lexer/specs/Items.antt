@@ -1,5 +1,5 @@
 -- What a text is cut into. A text is the list of its bytes, and a place is a number of bytes.
-use Rattle.std.specs.Prelude.{ℕ, zero, suc, ◌+◌, ℤ, Bool, true, false, if◌then◌else◌, length, List, [], ◌∷◌, ◌++◌, Option, Some, None}
+use Rattle.std.specs.Prelude.{◌≡◌, ◌<◌, ℕ, zero, suc, ◌+◌, ℤ, Bool, true, false, if◌then◌else◌, length, List, [], ◌∷◌, ◌++◌, Option, Some, None}
 use Rattle.std.specs.String.{string_bytes}
 use Rattle.starlark_lexer.specs.declared.token.Token.{Token}
 use Rattle.starlark_lexer.specs.declared.token.Token.TheVariants as token
@@ -324,3 +324,31 @@ count_fault (Some s) = 1
 -- how many answers are left: the items, and the fault where there is one
 abbrev pub answers : Lexed → ℕ
 answers l = length l.items + count_fault l.fault
+
+abbrev pub is_big : Number → Bool
+is_big (small z) = false
+is_big (big ds negative radix) = true
+
+-- a lexeme whose token holds memory, or of which the lexer keeps something: the width of a line, or what an f-string stands in
+abbrev pub takes_memory : Lexeme → Bool
+takes_memory indent = true
+takes_memory (comment w) = true
+takes_memory (identifier w) = true
+takes_memory (integer n) = is_big n
+takes_memory (float w) = true
+takes_memory (string w) = true
+takes_memory (bytes w) = true
+takes_memory (fstring_start q) = true
+takes_memory (fstring_text w) = true
+takes_memory _ = false
+
+-- the next answer takes memory: an item that does, or the fault
+abbrev pub next_takes : List Item → Option Stop → Bool
+next_takes [] None = false
+next_takes [] (Some s) = true
+next_takes (x ∷ xs) f = takes_memory x.lexeme
+
+-- memory may be missed: something is left, and the next answer takes memory
+pub record LacksMemory (l : Lexed) : Type 0 where
+  pub some : 0 < answers l
+  pub takes : next_takes l.items l.fault ≡ true

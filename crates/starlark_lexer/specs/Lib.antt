@@ -7,10 +7,12 @@ pub mod Depth
 pub mod Classes
 pub mod Lex
 pub mod FirstBytes
+pub mod Reads
 pub mod Scan
 pub mod Turns
 pub mod Parts
 pub mod Format
+pub mod FormatScan
 pub mod FormatModel
 pub mod Model
 pub mod Order

@@ -1,5 +1,5 @@
 -- What is left to a lexer, by its parts.
-use Rattle.std.specs.Prelude.{◌≡◌, ◌≤◌, ◌<◌, ℕ, true, false, if◌then◌else◌, List, [], ◌∷◌, drop, Option, Some, None, Result, Ok, Err}
+use Rattle.std.specs.Prelude.{◌≡◌, ◌≤◌, ◌+◌, ◌-◌, ℕ, true, false, if◌then◌else◌, List, [], ◌∷◌, drop, Option, Some, None, Result, Ok, Err}
 use Rattle.std.specs.Str.{IsCharBoundary}
 use Rattle.starlark_lexer.specs.declared.token.Token.{Token}
 use Rattle.starlark_lexer.specs.declared.scan.Mode.{Mode}
@@ -9,9 +9,10 @@ use Rattle.starlark_lexer.specs.declared.scan.Turn.{Turn}
 use Rattle.starlark_lexer.specs.declared.parts.Fault.{Fault}
 use Rattle.starlark_lexer.specs.declared.parts.Fault.TheVariants as faults
 use Rattle.starlark_lexer.specs.declared.parts.Parts.{Parts}
-use Rattle.starlark_lexer.specs.Items.{Lexed, nothing, lexeme_of, with_item, with_items, with_fault, dedents, answers}
+use Rattle.starlark_lexer.specs.Items.{Lexed, nothing, lexeme_of, with_item, with_items, with_fault, dedents, LacksMemory}
 use Rattle.starlark_lexer.specs.Literals.{is_format}
 use Rattle.starlark_lexer.specs.Scan.{At, left_at, act, step, pass, is_joined}
+use Rattle.starlark_lexer.specs.Reads.{Grows}
 use Rattle.starlark_lexer.specs.Turns.{Cuts, Bounds, Keeps}
 
 abbrev pub at : Parts → At
@@ -47,6 +48,8 @@ pub record IsSound (text : List ℕ) (s : State) (outer : List Mode) (margin : �
   pub mode : IsMode text s.place s.mode
   pub around : AreModes text s.place outer
   pub dedents : IsCharBoundary text margin
+  -- dedents stand at or before the place
+  pub behind : margin ≤ s.place
   pub starts : IsCharBoundary text 0
 
 abbrev pub IsWhole : Parts → Type 0
@@ -69,10 +72,10 @@ pub record Stands (a : Parts) : Type 0 where
   pub within : a.state.fresh ≡ false
   pub none : pass (is_joined a.state) (drop a.state.place a.text.now) ≡ 0
 
--- What a refusal is given for. Memory is missed only where something is left.
+-- What a refusal is given for. Memory is missed only where the next answer takes some.
 abbrev pub Stops : Lexed → Fault → Type 0
 Stops old (faults.Lexeme i e j) = old ≡ with_fault i e j
-Stops old faults.Memory = 0 < answers old
+Stops old faults.Memory = LacksMemory old
 
 -- What a call answers where `old` is left, and what is left behind it. Nothing is left behind a refusal.
 abbrev pub Hands : Lexed → Option (Result (ℕ × Token × ℕ) Fault) → Lexed → Type 0
@@ -86,6 +89,22 @@ Spans text None = Unit {0}
 Spans text (Some (Ok x)) = IsStretch text x.0 x.2
 Spans text (Some (Err (faults.Lexeme i e j))) = IsStretch text i j
 Spans text (Some (Err faults.Memory)) = Unit {0}
+
+-- the place moves on by n bytes at most, and nothing is looked at
+pub record Advances (a b : Parts) (n : ℕ) : Type 0 where
+  pub on : a.state.place ≤ b.state.place
+  pub most : b.state.place ≤ a.state.place + n
+  pub reads : b.reads ≡ a.reads
+
+-- the place moves on, and each byte that it passes is counted
+pub record Moves (a b : Parts) : Type 0 where
+  pub on : a.state.place ≤ b.state.place
+  pub looked : Grows a.reads (b.state.place - a.state.place) b.reads
+
+-- an item that is handed out ends at or before the place
+abbrev pub Reaches : Option (Result (ℕ × Token × ℕ) Fault) → ℕ → Type 0
+Reaches (Some (Ok x)) place = x.2 ≤ place
+Reaches _ place = Unit {0}
 
 -- What a line's beginning hands out. Where it is nothing, what is left stays, within the line.
 abbrev pub Begins : Parts → Option (Result (ℕ × Token × ℕ) Fault) → Parts → Type 0

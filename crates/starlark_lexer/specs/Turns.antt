@@ -7,6 +7,18 @@ use Rattle.starlark_lexer.specs.declared.scan.Kind.TheVariants as kind
 use Rattle.starlark_lexer.specs.declared.scan.Turn.{Turn}
 use Rattle.starlark_lexer.specs.declared.scan.Turn.TheVariants as turns
 
+-- how many bytes are passed at a turn: none at a fault
+abbrev pub passed : Turn → ℕ
+passed (turns.Gives i k n next f) = next
+passed (turns.Deeper w g) = g
+passed (turns.Fits n g) = g
+passed (turns.End g) = g
+passed (turns.Enter f n) = n
+passed (turns.Leave n) = n
+passed turns.Open = 1
+passed turns.Shut = 1
+passed _ = 0
+
 -- the numbers of a turn lie within the rest
 pub record IsWithin (rest : List ℕ) (i n next : ℕ) : Type 0 where
   pub some : 0 < n
@@ -18,7 +30,7 @@ Cuts rest (turns.Gives i k n next f) = IsWithin rest i n next
 Cuts rest (turns.Deeper w g) = g ≤ length rest
 Cuts rest (turns.Fault i e n) = i + n ≤ length rest
 Cuts rest (turns.Fits n g) = g ≤ length rest
-Cuts rest (turns.End g) = g ≤ length rest
+Cuts rest (turns.End g) = g ≡ length rest
 Cuts rest (turns.Tab g) = g ≤ length rest
 Cuts rest (turns.Enter f n) = (0 < n) × (n ≤ length rest)
 Cuts rest (turns.Leave n) = (0 < n) × (n ≤ length rest)

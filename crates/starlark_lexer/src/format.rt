@@ -3,7 +3,8 @@
 ghost use Rattle.std.specs.Prelude.{◌≡◌, ◌≤◌, ◌<◌, ◌^◌, ◌+◌, ◌++◌, Some, length, drop, take};
 ghost use Rattle.std.specs.List.{prefix_len};
 ghost use Rattle.starlark_lexer.specs.Format as spec;
-ghost use Rattle.starlark_lexer.specs.Format.{Gives, error_text};
+ghost use Rattle.starlark_lexer.specs.FormatScan as code;
+ghost use Rattle.starlark_lexer.specs.Format.{Gives, Pieces, error_text};
 
 use std::error::Error;
 use std::fmt;
@@ -153,7 +154,7 @@ fn conversion(bytes: &[u8]) -> Option<FormatConv>
 /// A capture with that between its braces.
 fn named(inside: &[u8]) -> Turn
     requires { length inside.now + 2 < 2 ^ 64 }
-    ensures { result ≡ spec.named inside.now }
+    ensures { result ≡ code.named inside.now }
 {
     let len = name_len(inside);
     match conversion(&inside[len..]) {
@@ -165,7 +166,7 @@ fn named(inside: &[u8]) -> Turn
 /// What an opening brace begins, by what stands behind it.
 fn opens(rest: &[u8]) -> Turn
     requires { length rest.now + 2 < 2 ^ 64 }
-    ensures { result ≡ spec.opens rest.now }
+    ensures { result ≡ code.opens rest.now }
 {
     let len = plain(rest);
     if len < rest.len() && rest[len] == b'}' {
@@ -175,9 +176,9 @@ fn opens(rest: &[u8]) -> Turn
     }
 }
 
-#[tactic(auto, unfolding(crate::specs::Format::turn))]
+#[tactic(auto, unfolding(crate::specs::FormatScan::turn))]
 fn next_turn(bytes: &[u8]) -> Turn
-    ensures { result ≡ spec.turn bytes.now }
+    ensures { result ≡ code.turn bytes.now }
 {
     if bytes.is_empty() {
         return Turn::Over;
@@ -213,7 +214,7 @@ impl<'a> Model for FormatParser<'a> {
 impl<'a> FormatParser<'a> {
     /// It takes no memory.
     pub fn new(s: &'a str) -> FormatParser<'a>
-        ensures left { result.left ≡ spec.parsed 0 0 s.now }
+        ensures left { Pieces 0 s.now result.left }
         ensures text { result.text ≡ s.now }
     {
         FormatParser { text: s, rest: s }
@@ -249,145 +250,6 @@ impl<'a> FormatParser<'a> {
                 kind,
                 text: self.text,
             }),
-        }
-    }
-}
-
-#[cfg(test)]
-mod tests {
-    use super::*;
-    use std::test::Fail;
-
-    fn capture(capture: &str, pos: usize, conv: FormatConv) -> FormatToken<'_> {
-        FormatToken::Capture { capture, pos, conv }
-    }
-
-    #[test]
-    fn tokens(rt: HostRuntime) {
-        let mut parser = FormatParser::new("a{b!r}}}");
-        assert_eq!(rt; parser.next(), Ok(Some(FormatToken::Text("a"))));
-        assert_eq!(rt; parser.next(), Ok(Some(capture("b", 2, FormatConv::Repr))));
-        assert_eq!(rt;
-            parser.next(),
-            Ok(Some(FormatToken::Escape(EscapeCurlyBrace::Close)))
-        );
-        assert_eq!(rt; parser.next(), Ok(None));
-        assert_eq!(rt; parser.next(), Ok(None));
-    }
-
-    #[test]
-    fn escapes(rt: HostRuntime) {
-        let mut parser = FormatParser::new("{{}}é{{");
-        assert_eq!(rt;
-            parser.next(),
-            Ok(Some(FormatToken::Escape(EscapeCurlyBrace::Open)))
-        );
-        assert_eq!(rt;
-            parser.next(),
-            Ok(Some(FormatToken::Escape(EscapeCurlyBrace::Close)))
-        );
-        assert_eq!(rt; parser.next(), Ok(Some(FormatToken::Text("é"))));
-        assert_eq!(rt;
-            parser.next(),
-            Ok(Some(FormatToken::Escape(EscapeCurlyBrace::Open)))
-        );
-        assert_eq!(rt; parser.next(), Ok(None));
-    }
-
-    #[test]
-    fn captures(rt: HostRuntime) {
-        let mut parser = FormatParser::new("{}{a b}{n!s}é{!r}");
-        assert_eq!(rt; parser.next(), Ok(Some(capture("", 1, FormatConv::Str))));
-        assert_eq!(rt; parser.next(), Ok(Some(capture("a b", 3, FormatConv::Str))));
-        assert_eq!(rt; parser.next(), Ok(Some(capture("n", 8, FormatConv::Str))));
-        assert_eq!(rt; parser.next(), Ok(Some(FormatToken::Text("é"))));
-        assert_eq!(rt; parser.next(), Ok(Some(capture("", 15, FormatConv::Repr))));
-        assert_eq!(rt; parser.next(), Ok(None));
-        assert_eq!(rt;
-            FormatParser::new("plain!r").next(),
-            Ok(Some(FormatToken::Text("plain!r")))
-        );
-        assert_eq!(rt; FormatParser::new("").next(), Ok(None));
-    }
-
-    #[test]
-    fn errors(rt: HostRuntime) -> Result<(), Fail> {
-        let standalone = FormatErrorKind::Standalone;
-        let unmatched = FormatErrorKind::Unmatched;
-        let conversion = FormatErrorKind::Conversion;
-        let cases = [
-            (
-                "}foo",
-                0,
-                standalone,
-                "Standalone '}' in format string `}foo`",
-            ),
-            ("a{b", 1, unmatched, "Unmatched '{' in format string `a{b`"),
-            (
-                "{a{b}",
-                0,
-                unmatched,
-                "Unmatched '{' in format string `{a{b}`",
-            ),
-            (
-                "{a!x",
-                0,
-                unmatched,
-                "Unmatched '{' in format string `{a!x`",
-            ),
-            (
-                "{a!x}",
-                0,
-                conversion,
-                "Unknown conversion in format string `{a!x}`",
-            ),
-            (
-                "{a!}",
-                0,
-                conversion,
-                "Unknown conversion in format string `{a!}`",
-            ),
-            (
-                "{a!s!r}",
-                0,
-                conversion,
-                "Unknown conversion in format string `{a!s!r}`",
-            ),
-            (
-                "{}}",
-                1,
-                standalone,
-                "Standalone '}' in format string `{}}`",
-            ),
-            (
-                "é{{}",
-                2,
-                standalone,
-                "Standalone '}' in format string `é{{}`",
-            ),
-        ];
-        for (text, before, kind, shown) in cases {
-            let mut parser = FormatParser::new(text);
-            for _ in 0..before {
-                assert!(rt; matches!(parser.next(), Ok(Some(_))), "{text}");
-            }
-            for _ in 0..2 {
-                let error = FormatError { kind, text };
-                assert_eq!(rt; parser.next(), Err(error), "{text}");
-                assert_eq!(rt; error.to_string(rt.alloc())?.as_str(), shown);
-            }
-        }
-        Ok(())
-    }
-
-    #[test]
-    fn braces(rt: HostRuntime) {
-        for (brace, one, two) in [
-            (EscapeCurlyBrace::Open, "{", "{{"),
-            (EscapeCurlyBrace::Close, "}", "}}"),
-        ] {
-            assert_eq!(rt; brace.as_str(), one);
-            assert_eq!(rt; brace.back_to_escape(), two);
         }
     }
 }

@@ -80,36 +80,3 @@ pub fn lex_exactly_one_identifier(alloc: Global, s: &str) -> Result<Option<Strin
     }
     Ok(Some(String::from_str(alloc, word)?))
 }
-
-#[cfg(test)]
-mod tests {
-    use super::*;
-    use std::test::Fail;
-
-    #[test]
-    fn identifiers(rt: HostRuntime) -> Result<(), Fail> {
-        for text in ["foo", " foo ", "\t\rfoo\r \t"] {
-            let found = lex_exactly_one_identifier(rt.alloc(), text)?;
-            assert!(rt;
-                matches!(&found, Some(word) if word.as_str() == "foo"),
-                "{text}"
-            );
-        }
-        for text in ["_", "a1_B", "True", "iffy", "x"] {
-            let found = lex_exactly_one_identifier(rt.alloc(), text)?;
-            assert!(rt;
-                matches!(&found, Some(word) if word.as_str() == text),
-                "{text}"
-            );
-        }
-        for text in [
-            "foo bar", "not", "123", "", " ", "1a", "class", "a\n", "é", "a.b", "if",
-        ] {
-            assert!(rt;
-                lex_exactly_one_identifier(rt.alloc(), text)?.is_none(),
-                "{text}"
-            );
-        }
-        Ok(())
-    }
-}

@@ -4,6 +4,7 @@ ghost use Rattle.std.specs.Prelude.{◌*◌, ◌+◌, ◌≡◌, ◌≤◌, List
 ghost use Rattle.starlark_lexer.specs.declared.dialect.TheConstants.Dialect.{AllOptionsInternal, Extended, Standard};
 ghost use Rattle.starlark_lexer.specs.declared.words.TheConstants.{KEYWORDS, OPERATORS, RESERVED};
 ghost use Rattle.starlark_lexer.specs.Dialects.{all_options, extended, standard};
+ghost use Rattle.starlark_lexer.specs.Format.{Parsed, Pieces};
 ghost use Rattle.starlark_lexer.specs.Items.{Lexed, keyword_lexeme, operator_lexeme};
 ghost use Rattle.starlark_lexer.specs.Joining.{IsClosed, IsEven, IsJoined, IsLaid, IsLevel, dedent_item, opens_level};
 ghost use Rattle.starlark_lexer.specs.Lex.{Lex, start};
@@ -46,6 +47,11 @@ pub fn nothing_left_out()
 /// An identifier and an integer have some bytes, the first of which is an ASCII byte.
 pub fn firm_items()
     ensures { (text : List ℕ) (l : Lexed) → Lex start text l → AreFirm text l.items }
+{}
+
+/// A format string has at most one reading.
+pub fn one_format()
+    ensures { (text : List ℕ) (a b : Parsed) → Pieces 0 text a → Pieces 0 text b → a ≡ b }
 {}
 
 /// The words and operators that the lexer knows are these.

@@ -2,7 +2,7 @@
 
 ghost use Rattle.std.specs.Prelude.{◌≡◌, ◌≤◌, length};
 ghost use Rattle.starlark_lexer.specs.Lex.{Lex, start};
-ghost use Rattle.starlark_lexer.specs.Model.{Gives, Within};
+ghost use Rattle.starlark_lexer.specs.Model.{Counts, Gives, Within};
 ghost use Rattle.starlark_lexer.specs.Parts.{IsStretch};
 ghost use Rattle.starlark_place.specs.Place.{extent, file_place};
 ghost use Rattle.starlark_place.specs.Diagnostic.{Refuses};
@@ -21,7 +21,7 @@ use std::marker::Model;
 pub type EvalException = Refusal<LexemeError>;
 
 /// Cuts a text into lexemes. A clause sees the items and the fault that are left, the length of the
-/// text, the reads so far and the source.
+/// text, how much of it is cut, the count of looks so far and the source.
 #[derive(Drop)]
 pub struct Lexer<'a> {
     parts: Parts<'a>,
@@ -39,13 +39,14 @@ impl<'a> Model for Lexer<'a> {
 }
 
 impl<'a> Lexer<'a> {
-    /// Stands at the beginning of the input, which is the map's source. It takes no memory, and the dialect changes no
-    /// lexeme.
+    /// Stands at the beginning of the input, which is the map's source: comparing it with `CodeMap::source` tells that. It
+    /// takes no memory, and the dialect changes no lexeme.
     pub fn new(alloc: Global, input: &'a str, _dialect: &Dialect, codemap: CodeMap) -> Lexer<'a>
         requires { codemap.source ≡ input.now }
         ensures left { Lex start input.now result.left }
         ensures size { result.size ≡ length input.now }
         ensures fits { result.size ≤ 4294967295 }
+        ensures place { result.place ≡ 0 }
         ensures reads { result.reads ≡ 0 }
         ensures file { result.file ≡ codemap }
     {
@@ -79,6 +80,7 @@ impl<'a> Lexer<'a> {
     pub fn next(&mut self) -> Option<Result<(usize, Token, usize), EvalException>>
         ensures gives { Gives self.old.file self.old.left result self.new.left }
         ensures within { Within self.old.size result }
+        ensures counts { Counts self.old result self.new }
         ensures size { self.new.size ≡ self.old.size }
         ensures fits { self.new.size ≤ 4294967295 }
         ensures file { self.new.file ≡ self.old.file }
@@ -96,10 +98,11 @@ impl<'a> Lexer<'a> {
         }
     }
 
-    /// How many looks at bytes the scanner has counted so far: a byte counts each time. The sum stops at the greatest
-    /// `u64`.
+    /// How many looks at bytes the scanner has counted so far. It never falls, and it is at least the number of bytes that
+    /// are cut: behind the last lexeme of a text without fault, the bytes of the text. The sum stops at the greatest `u64`.
     pub fn reads(&self) -> u64
         ensures value { result ≡ self.now.reads }
+        ensures least { self.now.place ≤ result }
     {
         self.parts.reads
     }

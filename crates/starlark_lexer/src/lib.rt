@@ -3,6 +3,7 @@
 
 pub mod dialect;
 mod display;
+mod escape;
 pub mod format;
 pub mod identifier;
 pub mod laws;
@@ -13,8 +14,6 @@ pub mod number;
 mod parts;
 mod scan;
 mod state;
-#[cfg(test)]
-mod tests;
 pub mod token;
 mod words;
 

@@ -1,13 +1,13 @@
 //! Literals: their prefixes, quotes and bodies.
 
-ghost use Rattle.std.specs.Prelude.{◌≡◌, ◌≤◌, ◌<◌, ◌+◌, ◌*◌, ◌⊎◌, ◌++◌, IfOk, OnOk, length, take, drop, slice_index, true, false};
-ghost use Rattle.std.specs.Char.{is_digit};
+ghost use Rattle.std.specs.Prelude.{◌≡◌, ◌≤◌, ◌<◌, ◌+◌, ◌-◌, ◌*◌, ◌⊎◌, ◌++◌, if◌then◌else◌, IfOk, OnOk, length, take, drop, true, false};
 ghost use Rattle.std.specs.List.{prefix_len};
-ghost use Rattle.std.specs.Str.Parse.{digits_value};
 ghost use Rattle.std.specs.String.{string_bytes};
 ghost use Rattle.starlark_lexer.specs.Fronts as fronts;
 ghost use Rattle.starlark_lexer.specs.Literals as spec;
+ghost use Rattle.starlark_lexer.specs.Reads.{Grows};
 
+use crate::escape::{begins, escape, front, look, raw_escape};
 use crate::token::FStringQuote;
 use std::alloc::{AllocError, Global};
 
@@ -58,13 +58,6 @@ pub(crate) enum Piece {
     Same(usize),
 }
 
-/// Counts one byte as looked at.
-fn look(reads: &mut u64)
-    ensures { reads.new ≤ reads.old + 1 }
-{
-    *reads = reads.saturating_add(1);
-}
-
 /// How many bytes the quotes have.
 pub(crate) fn quotes(quote: FStringQuote) -> usize
     ensures { result ≡ spec.quotes quote }
@@ -96,211 +89,10 @@ pub(crate) fn is_format(sort: Sort) -> bool
     matches!(sort, Sort::Format)
 }
 
-fn begins(b: u8, bytes: &[u8], reads: &mut u64) -> bool
-    ensures value { result ≡ spec.begins b bytes.now }
-    ensures paid { reads.new ≤ reads.old + 1 }
-{
-    if bytes.is_empty() {
-        return false;
-    }
-    look(reads);
-    bytes[0] == b
-}
-
-/// How many bytes at the front go on with a character before them.
-fn continuations(bytes: &[u8], reads: &mut u64) -> usize
-    ensures value { result ≡ prefix_len spec.continues bytes.now }
-    ensures within { result ≤ length bytes.now }
-    ensures paid { reads.new ≤ reads.old + result + 1 }
-{
-    let mut end = 0;
-    while end < bytes.len() {
-        look(reads);
-        if bytes[end] < 128 || bytes[end] >= 192 {
-            return end;
-        }
-        end += 1;
-    }
-    end
-}
-
-/// How many bytes the first character has.
-fn character(bytes: &[u8], reads: &mut u64) -> usize
-    ensures value { result ≡ spec.character bytes.now }
-    ensures within { result ≤ length bytes.now }
-    ensures paid { reads.new ≤ reads.old + result + 1 }
-{
-    if bytes.is_empty() {
-        return 0;
-    }
-    look(reads);
-    if bytes[0] < 128 {
-        1
-    } else {
-        1 + continuations(&bytes[1..], reads)
-    }
-}
-
-/// The value and the number of the digits at the front.
-fn digits(base: u32, bytes: &[u8], reads: &mut u64) -> (u32, usize)
-    requires lower_bound { 2 ≤ base }
-    requires upper_bound { base ≤ 16 }
-    requires short { length bytes.now ≤ 8 }
-    ensures len { result.1 ≡ prefix_len (λ d. is_digit d base) bytes.now }
-    ensures value { result.0 ≡ digits_value base (take result.1 bytes.now) }
-    ensures within { result.1 ≤ length bytes.now }
-    ensures paid { reads.new ≤ reads.old + result.1 + 1 }
-{
-    let mut value = 0;
-    let mut end = 0;
-    while end < bytes.len() {
-        look(reads);
-        match (bytes[end] as char).to_digit(base) {
-            Some(digit) => value = value * base + digit,
-            None => return (value, end),
-        }
-        end += 1;
-    }
-    (value, end)
-}
-
-/// At most so many bytes of the front.
-fn front(bytes: &[u8], most: usize) -> &[u8]
-    ensures value { result.now ≡ take most bytes.now }
-    ensures short { length result.now ≤ most }
-{
-    if most < bytes.len() {
-        &bytes[..most]
-    } else {
-        bytes
-    }
-}
-
-/// A backslash with what stands behind it, which is no escape.
-fn no_escape(rest: &[u8], reads: &mut u64) -> Piece
-    ensures value { result ≡ spec.no_escape rest.now }
-{
-    Piece::Wrong(1 + character(rest, reads))
-}
-
-/// An escape of so many bytes with that value.
-fn escaped(sort: Sort, value: u32, len: usize, rest: &[u8], reads: &mut u64) -> Piece
-    ensures value { result ≡ spec.escaped sort value len rest.now }
-{
-    match sort {
-        Sort::Bytes => match u8::try_from(value) {
-            Ok(byte) => Piece::Byte(byte, len),
-            Err(_) => no_escape(rest, reads),
-        },
-        Sort::Text | Sort::Format => match char::from_u32(value) {
-            Some(c) => Piece::Char(c, len),
-            None => no_escape(rest, reads),
-        },
-    }
-}
-
-fn simple(letter: u8) -> Option<u8>
-    ensures { result ≡ spec.simple letter }
-{
-    match letter {
-        b'a' => Some(7),
-        b'b' => Some(8),
-        b'f' => Some(12),
-        b'n' => Some(10),
-        b'r' => Some(13),
-        b't' => Some(9),
-        b'v' => Some(11),
-        b'\\' | b'\'' | b'"' => Some(letter),
-        _ => None,
-    }
-}
-
-fn hex_digits(letter: u8) -> usize
-    ensures { result ≡ spec.hex_digits letter }
-{
-    match letter {
-        b'x' => 2,
-        b'u' => 4,
-        b'U' => 8,
-        _ => 0,
-    }
-}
-
-fn hex_escape(sort: Sort, len: usize, rest: &[u8], reads: &mut u64) -> Piece
-    requires some { 0 < length rest.now }
-    requires short { len ≤ 8 }
-    ensures value { result ≡ spec.hex_escape sort len rest.now }
-{
-    let (value, found) = digits(16, front(&rest[1..], len), reads);
-    if found == len {
-        escaped(sort, value, 2 + len, rest, reads)
-    } else {
-        no_escape(rest, reads)
-    }
-}
-
-fn octal_escape(sort: Sort, rest: &[u8], reads: &mut u64) -> Piece
-    ensures value { result ≡ spec.octal_escape sort rest.now }
-{
-    let (value, found) = digits(8, front(rest, 3), reads);
-    escaped(sort, value, 1 + found, rest, reads)
-}
-
-/// What a backslash begins with a byte behind it that is no letter of an escape.
-fn other_escape(sort: Sort, c: u8, rest: &[u8], reads: &mut u64) -> Piece
-    requires some { 0 < length rest.now }
-    ensures value { result ≡ spec.other_escape sort c rest.now }
-{
-    if (c as char).is_digit(8) {
-        return octal_escape(sort, rest, reads);
-    }
-    let len = hex_digits(c);
-    if len > 0 {
-        return hex_escape(sort, len, rest, reads);
-    }
-    if c == b'\n' {
-        return Piece::Nothing(2);
-    }
-    if c == b'\r' && begins(b'\n', &rest[1..], reads) {
-        return Piece::Nothing(3);
-    }
-    no_escape(rest, reads)
-}
-
-/// What a backslash begins, by what stands behind it.
-#[tactic(auto, unfolding(crate::specs::Literals::escape))]
-fn escape(sort: Sort, rest: &[u8], reads: &mut u64) -> Piece
-    ensures value { result ≡ spec.escape sort rest.now }
-{
-    if rest.is_empty() {
-        return Piece::Nothing(1);
-    }
-    look(reads);
-    match simple(rest[0]) {
-        Some(value) => escaped(sort, u32::from(value), 2, rest, reads),
-        None => other_escape(sort, rest[0], rest, reads),
-    }
-}
-
-/// The same in a raw literal.
-#[tactic(auto, unfolding(crate::specs::Literals::raw_escape))]
-fn raw_escape(sort: Sort, rest: &[u8], reads: &mut u64) -> Piece
-    ensures value { result ≡ spec.raw_escape sort rest.now }
-{
-    if rest.is_empty() {
-        return Piece::Same(1);
-    }
-    look(reads);
-    let c = rest[0];
-    if c == b'\r' || (is_format(sort) && (c == b'{' || c == b'}')) {
-        return Piece::Same(1);
-    }
-    Piece::Same(1 + character(rest, reads))
-}
-
 /// Behind a mark stand the others of the quotes.
 fn goes_on(quote: FStringQuote, rest: &[u8], reads: &mut u64) -> bool
     ensures value { result ≡ spec.goes_on quote rest.now }
+    ensures looked { Grows reads.old (if result then spec.quotes quote - 1 else 0) reads.new }
 {
     if !is_triple(quote) {
         return true;
@@ -312,6 +104,7 @@ fn goes_on(quote: FStringQuote, rest: &[u8], reads: &mut u64) -> bool
 fn brace(b: u8, rest: &[u8], reads: &mut u64) -> Piece
     requires some { b ≡ 123 ⊎ b ≡ 125 }
     ensures value { result ≡ spec.brace b rest.now }
+    ensures looked { Grows reads.old (fronts.width result - 1) reads.new }
 {
     if begins(b, rest, reads) {
         Piece::Char(b as char, 2)
@@ -323,9 +116,10 @@ fn brace(b: u8, rest: &[u8], reads: &mut u64) -> Piece
 }
 
 /// What stands at the front of the rest of a body.
-#[tactic(auto, unfolding(crate::specs::Literals::piece))]
+#[tactic(auto, using(crate::proofs::Looks::item_passed), unfolding(crate::specs::Literals::piece))]
 fn next_piece(form: Form, bytes: &[u8], reads: &mut u64) -> Piece
     ensures value { result ≡ spec.piece form bytes.now }
+    ensures looked { Grows reads.old (fronts.passed form.quote result) reads.new }
 {
     if bytes.is_empty() {
         return Piece::Stop;
@@ -375,6 +169,7 @@ fn width(piece: Piece) -> usize
 /// How the body ends that begins with the bytes. It takes no memory.
 pub(crate) fn body(form: Form, bytes: &[u8], reads: &mut u64) -> Ending
     ensures value { result ≡ spec.body form 0 bytes.now }
+    ensures looked { Grows reads.old (fronts.reached form.quote result) reads.new }
 {
     let mut at = 0;
     while at < bytes.len() {
@@ -393,6 +188,7 @@ fn plain_run(bytes: &[u8], reads: &mut u64) -> usize
     ensures value { result ≡ prefix_len fronts.is_plain bytes.now }
     ensures within { result ≤ length bytes.now }
     ensures paid { reads.new ≤ reads.old + result + 1 }
+    ensures looked { Grows reads.old result reads.new }
 {
     let len = plain_len(bytes);
     *reads = reads.saturating_add(len as u64).saturating_add(1);
@@ -500,6 +296,7 @@ fn letters(bytes: &[u8], reads: &mut u64) -> usize
     ensures value { result ≡ spec.letters bytes.now }
     ensures within { result ≤ length bytes.now }
     ensures paid { reads.new ≤ reads.old + result + 1 }
+    ensures looked { Grows reads.old result reads.new }
 {
     let mut end = 0;
     while end < bytes.len() {
@@ -530,6 +327,7 @@ fn prefix(letters: &[u8]) -> Option<(Sort, bool)>
 /// The longest quotes at the front.
 fn quote_front(bytes: &[u8], reads: &mut u64) -> Option<FStringQuote>
     ensures value { result ≡ fronts.quote_front bytes.now }
+    ensures looked { Grows reads.old (fronts.quotes_len result) reads.new }
 {
     if bytes.is_empty() {
         return None;
@@ -559,6 +357,7 @@ fn may_open(bytes: &[u8]) -> bool
 /// The longest prefix and quotes at the front, and how many bytes they have.
 pub(crate) fn opening(bytes: &[u8], reads: &mut u64) -> Option<(Form, usize)>
     ensures value { result ≡ fronts.opening_front bytes.now }
+    ensures looked { Grows reads.old (fronts.opening_len result) reads.new }
 {
     look(reads);
     if !may_open(bytes) {
@@ -568,131 +367,4 @@ pub(crate) fn opening(bytes: &[u8], reads: &mut u64) -> Option<(Form, usize)>
     let (sort, raw) = prefix(&bytes[..len])?;
     let quote = quote_front(&bytes[len..], reads)?;
     Some((Form { sort, raw, quote }, len + quotes(quote)))
-}
-
-#[cfg(test)]
-mod tests {
-    use super::*;
-    use std::test::Fail;
-
-    /// How the literal at the front ends, counted from its beginning.
-    fn ends(text: &str) -> Option<Ending> {
-        let mut reads = 0;
-        let bytes = text.as_bytes();
-        let (form, len) = opening(bytes, &mut reads)?;
-        if len > bytes.len() {
-            return None;
-        }
-        Some(body(form, &bytes[len..], &mut reads))
-    }
-
-    #[test]
-    fn endings(rt: HostRuntime) {
-        let cases: [(&str, Ending); 34] = [
-            (r#""\x41\u00e9""#, Ending::Closed(10)),
-            (r#"b"\xff\777""#, Ending::Escape(4, 2)),
-            (r#""a\qb""#, Ending::Escape(1, 2)),
-            (r#""\q"#, Ending::Escape(0, 2)),
-            (r#""\x4"#, Ending::Escape(0, 2)),
-            (r#""\é""#, Ending::Escape(0, 3)),
-            (r#""\ud800""#, Ending::Escape(0, 2)),
-            (r#""\U00110000""#, Ending::Escape(0, 2)),
-            (r#""\U0010ffff""#, Ending::Closed(10)),
-            (r#"b"\u0100""#, Ending::Escape(0, 2)),
-            (r#"b"\u00ff""#, Ending::Closed(6)),
-            (r#"b"\U000000ff\377""#, Ending::Closed(14)),
-            (r#"b"\400""#, Ending::Escape(0, 2)),
-            ("\"a\\\r\nb\"", Ending::Closed(5)),
-            ("\"a\\\rb\"", Ending::Escape(1, 2)),
-            ("\"a\nb\"", Ending::Unfinished(1)),
-            ("\"a\rb\"", Ending::Closed(3)),
-            ("\"abc", Ending::Unfinished(3)),
-            ("\"abc\\", Ending::Unfinished(4)),
-            ("'''a\n'b''c'''", Ending::Closed(7)),
-            ("\"\"\"\"\"\"", Ending::Closed(0)),
-            ("''", Ending::Closed(0)),
-            ("r'\\'a'", Ending::Closed(3)),
-            ("r'\\\na'", Ending::Closed(3)),
-            ("r'\\\r\na'", Ending::Unfinished(2)),
-            ("r'a\\\\'", Ending::Closed(3)),
-            ("rb'\\é'", Ending::Closed(3)),
-            ("f'{{a}}}b{c}'", Ending::Field(7)),
-            ("fr'\\{a}'", Ending::Field(1)),
-            ("fr'\\}\\n'", Ending::Closed(4)),
-            ("f'a\\{'", Ending::Escape(1, 2)),
-            ("'{}'", Ending::Closed(2)),
-            ("rf'''{'''", Ending::Field(0)),
-            ("f'}'", Ending::Closed(1)),
-        ];
-        for (text, ending) in cases {
-            let found = ends(text);
-            assert_eq!(rt; found, Some(ending), "{text}");
-        }
-        for text in ["", "x", "R'a'", "br", "bf'a'", "brr'a'", "ur''"] {
-            assert!(rt; ends(text).is_none(), "{text}");
-        }
-    }
-
-    #[test]
-    fn values(rt: HostRuntime) -> Result<(), Fail> {
-        let cases = [
-            (
-                false,
-                false,
-                r"\a\b\f\n\r\t\v\\\'\q",
-                "\x07\x08\x0c\n\r\t\x0b\\'",
-            ),
-            (
-                false,
-                false,
-                r"\x41\u00e9\0\101\1018z\U0001f600",
-                "A\u{e9}\0AA8z\u{1f600}",
-            ),
-            (false, false, "a\\\r\nb\rc\\\nd", "abcd"),
-            (false, false, "{{}}", "{{}}"),
-            (true, false, "\\n\\\r\\é\r", "\\n\\\\é"),
-            (false, true, "{{a}}}é", "{a}}é"),
-            (true, true, "\\}}\\'", "\\}\\'"),
-        ];
-        for (raw, format, text, value) in cases {
-            let sort = if format { Sort::Format } else { Sort::Text };
-            let form = Form {
-                sort,
-                raw,
-                quote: FStringQuote::Single,
-            };
-            assert_eq!(rt;
-                text_value(rt.alloc(), form, text)?.as_str(),
-                value,
-                "{text}"
-            );
-        }
-        Ok(())
-    }
-
-    #[test]
-    fn bytes(rt: HostRuntime) -> Result<(), Fail> {
-        let cases: [(bool, &str, &[u8]); 3] = [
-            (
-                false,
-                r"\xff\377\u00fe\U00000080é\n",
-                b"\xff\xff\xfe\x80\xc3\xa9\n",
-            ),
-            (true, "\\xff\\é\r", b"\\xff\\\xc3\xa9"),
-            (false, "{{\\\n}}", b"{{}}"),
-        ];
-        for (raw, text, value) in cases {
-            let form = Form {
-                sort: Sort::Bytes,
-                raw,
-                quote: FStringQuote::TripleDouble,
-            };
-            assert_eq!(rt;
-                bytes_value(rt.alloc(), form, text)?.as_slice(),
-                value,
-                "{text}"
-            );
-        }
-        Ok(())
-    }
 }

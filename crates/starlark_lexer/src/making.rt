@@ -1,7 +1,7 @@
 //! Makes the tokens of lexemes.
 
-ghost use Rattle.std.specs.Prelude.{◌≡◌, IfOk, false, true};
-ghost use Rattle.starlark_lexer.specs.Items.{is_assigning, lexeme_of, keyword_lexeme, operator_lexeme};
+ghost use Rattle.std.specs.Prelude.{◌≡◌, MatchResult, false, true};
+ghost use Rattle.starlark_lexer.specs.Items.{is_assigning, lexeme_of, keyword_lexeme, operator_lexeme, takes_memory};
 ghost use Rattle.starlark_lexer.specs.Lex.{literal_lexeme};
 ghost use Rattle.starlark_lexer.specs.Literals.{value};
 ghost use Rattle.starlark_lexer.specs.Scan.{lexeme_from};
@@ -96,9 +96,9 @@ fn assigning_token(operator: Operator) -> Token
     }
 }
 
-/// The lexeme of a literal that has such a body.
+/// The lexeme of a literal that has such a body. `Err` comes only where memory lacks for it.
 fn literal(alloc: Global, form: Form, body: &str) -> Result<Token, AllocError>
-    ensures { IfOk result (λ t. lexeme_of t ≡ literal_lexeme form.sort (value form body.now)) }
+    ensures { MatchResult result (λ t. lexeme_of t ≡ literal_lexeme form.sort (value form body.now)) (λ _. takes_memory (literal_lexeme form.sort (value form body.now)) ≡ true) }
 {
     match form.sort {
         Sort::Text => Ok(Token::String(text_value(alloc, form, body)?)),
@@ -107,10 +107,11 @@ fn literal(alloc: Global, form: Form, body: &str) -> Result<Token, AllocError>
     }
 }
 
-/// The token of a lexeme with that text.
+#[tactic(auto, using(crate::proofs::Numbers::big_takes))]
+/// The token of a lexeme with that text. `Err` comes only where the token holds memory.
 pub(crate) fn token(alloc: Global, kind: Kind, text: &str) -> Result<Token, AllocError>
     requires { Slices kind text.now }
-    ensures { IfOk result (λ t. lexeme_of t ≡ lexeme_from kind text.now) }
+    ensures { MatchResult result (λ t. lexeme_of t ≡ lexeme_from kind text.now) (λ _. takes_memory (lexeme_from kind text.now) ≡ true) }
 {
     let token = match kind {
         Kind::Newline => Token::Newline,

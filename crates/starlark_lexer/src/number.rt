@@ -136,7 +136,7 @@ impl TokenInt {
         })
     }
 
-    /// Reads an optional `+` or `-` and one digit or more of the base, of either case.
+    /// Reads an optional `+` or `-` and one digit or more of the base, of either case. The base is 2 to 36.
     ///
     /// The answer is `I32` exactly where the value fits 32 bits; else it has the digits in lower
     /// case without leading zeros, the sign and the base. Any other text is `CannotParse`, and
@@ -154,99 +154,5 @@ impl TokenInt {
             Ok(value) => Ok(value),
             Err(_) => Err(TokenIntError::Memory),
         }
-    }
-}
-
-#[cfg(test)]
-mod tests {
-    use super::*;
-    use std::test::Fail;
-
-    #[test]
-    fn small_values(rt: HostRuntime) -> Result<(), Fail> {
-        let cases: [(&str, u32, i32); 10] = [
-            ("0", 10, 0),
-            ("-0", 10, 0),
-            ("+7", 10, 7),
-            ("2147483647", 10, 2147483647),
-            ("-2147483648", 10, -2147483648),
-            ("00FF", 16, 255),
-            ("ff", 16, 255),
-            ("-101", 2, -5),
-            ("777", 8, 511),
-            ("Zz", 36, 1295),
-        ];
-        for (text, base, value) in cases {
-            let read = TokenInt::from_str_radix(rt.alloc(), text, base)?;
-            assert_eq!(rt; read, TokenInt::I32(value), "{text}");
-        }
-        Ok(())
-    }
-
-    #[test]
-    fn other_values(rt: HostRuntime) -> Result<(), Fail> {
-        let cases: [(&str, u32, &str, bool); 6] = [
-            ("80000000", 16, "80000000", false),
-            ("2147483648", 10, "2147483648", false),
-            ("-2147483649", 10, "2147483649", true),
-            ("+000FFFFFFFFF", 16, "fffffffff", false),
-            (
-                "-0100000000000000000000000000000000",
-                2,
-                "100000000000000000000000000000000",
-                true,
-            ),
-            ("ZZZZZZZZ", 36, "zzzzzzzz", false),
-        ];
-        for (text, base, digits, negative) in cases {
-            let read = TokenInt::from_str_radix(rt.alloc(), text, base)?;
-            let digits = String::from_str(rt.alloc(), digits)?;
-            let radix = base;
-            assert_eq!(rt;
-                read,
-                TokenInt::BigInt {
-                    digits,
-                    negative,
-                    radix
-                },
-                "{text}"
-            );
-        }
-        Ok(())
-    }
-
-    #[test]
-    fn no_integers(rt: HostRuntime) -> Result<(), Fail> {
-        let cases = [
-            ("", 10),
-            ("-", 10),
-            ("+", 16),
-            ("--1", 10),
-            ("+-1", 10),
-            ("12", 2),
-            ("1g", 16),
-            (" 1", 10),
-            ("1_0", 10),
-            ("é", 36),
-            ("99999999999999999999x", 10),
-        ];
-        for (text, base) in cases {
-            let read = TokenInt::from_str_radix(rt.alloc(), text, base);
-            assert_eq!(rt; read, Err(TokenIntError::CannotParse), "{text}");
-        }
-        Ok(())
-    }
-
-    #[test]
-    fn texts_of_errors(rt: HostRuntime) -> Result<(), Fail> {
-        let cases = [
-            (TokenIntError::CannotParse, "cannot parse integer"),
-            (TokenIntError::Memory, "out of memory"),
-        ];
-        for (error, text) in cases {
-            let shown = format!(in rt.alloc(); "{error}")?;
-            assert_eq!(rt; shown.as_str(), text);
-        }
-        Ok(())
     }
 }

@@ -4,10 +4,11 @@ ghost use Rattle.std.specs.Prelude.{◌≡◌, ◌<◌, ◌≤◌, ◌+◌, ◌*
 ghost use Rattle.starlark_lexer.specs.Items.{lexeme_of, answers, with_fault};
 ghost use Rattle.starlark_lexer.specs.Literals.{is_bytes};
 ghost use Rattle.starlark_lexer.specs.Scan.{lexeme_from, in_text};
-ghost use Rattle.starlark_lexer.specs.Turns.{IsLexical};
+ghost use Rattle.starlark_lexer.specs.Turns.{IsLexical, passed};
 ghost use Rattle.starlark_lexer.specs.declared.scan.Turn.TheVariants.{End, Gives, Enter, Fits, Deeper, Leave};
 ghost use Rattle.starlark_lexer.specs.declared.scan.Mode.TheVariants.{Inside};
-ghost use Rattle.starlark_lexer.specs.Parts.{left, Begins, Hands, Spans, IsStretch, IsWhole, IsReady, Comes, Stands};
+ghost use Rattle.starlark_lexer.specs.Parts.{left, Begins, Hands, Spans, IsStretch, IsWhole, IsReady, Comes, Stands, Advances, Moves, Reaches};
+ghost use Rattle.starlark_lexer.specs.Reads.{Grows};
 
 use crate::literal::Form;
 use crate::making::token;
@@ -56,6 +57,8 @@ fn hand_out(parts: &mut Parts, turn: Turn) -> Answer
     ensures text { parts.new.text.now ≡ parts.old.text.now }
     ensures gives { Hands (left parts.old) (Some result) (left parts.new) }
     ensures spans { Spans parts.old.text.now (Some result) }
+    ensures goes { Advances parts.old parts.new (passed turn) }
+    ensures reaches { Reaches (Some result) parts.new.state.place }
 {
     let place = parts.state.place;
     match turn {
@@ -102,6 +105,8 @@ fn finish(parts: &mut Parts, turn: Turn, gap: usize) -> Answer
     ensures text { parts.new.text.now ≡ parts.old.text.now }
     ensures gives { Hands (left parts.old) (Some result) (left parts.new) }
     ensures spans { Spans parts.old.text.now (Some result) }
+    ensures goes { Advances parts.old parts.new (passed turn) }
+    ensures reaches { Reaches (Some result) parts.new.state.place }
 {
     let end = parts.text.as_bytes().len();
     parts.state.place = end;
@@ -121,6 +126,8 @@ fn refuse(parts: &mut Parts, begin: usize, error: LexemeError, end: usize) -> An
     ensures text { parts.new.text.now ≡ parts.old.text.now }
     ensures gives { Hands (left parts.old) (Some result) (left parts.new) }
     ensures spans { Spans parts.old.text.now (Some result) }
+    ensures goes { Advances parts.old parts.new 0 }
+    ensures reaches { Reaches (Some result) parts.new.state.place }
 {
     parts.over = true;
     Err(Fault::Lexeme(begin, error, end))
@@ -144,6 +151,8 @@ fn give(
     ensures text { parts.new.text.now ≡ parts.old.text.now }
     ensures gives { Hands (left parts.old) (Some result) (left parts.new) }
     ensures spans { Spans parts.old.text.now (Some result) }
+    ensures goes { Advances parts.old parts.new (passed turn) }
+    ensures reaches { Reaches (Some result) parts.new.state.place }
 {
     let place = parts.state.place;
     parts.state = after(parts.state, begin, kind, len, next, fresh);
@@ -170,6 +179,8 @@ fn enter(parts: &mut Parts, turn: Turn, form: Form, len: usize) -> Answer
     ensures text { parts.new.text.now ≡ parts.old.text.now }
     ensures gives { Hands (left parts.old) (Some result) (left parts.new) }
     ensures spans { Spans parts.old.text.now (Some result) }
+    ensures goes { Advances parts.old parts.new (passed turn) }
+    ensures reaches { Reaches (Some result) parts.new.state.place }
 {
     let place = parts.state.place;
     if parts.outer.push(parts.state.mode).is_err() {
@@ -190,6 +201,8 @@ fn leave(parts: &mut Parts, turn: Turn, len: usize) -> Answer
     ensures text { parts.new.text.now ≡ parts.old.text.now }
     ensures gives { Hands (left parts.old) (Some result) (left parts.new) }
     ensures spans { Spans parts.old.text.now (Some result) }
+    ensures goes { Advances parts.old parts.new (passed turn) }
+    ensures reaches { Reaches (Some result) parts.new.state.place }
 {
     let place = parts.state.place;
     let below = pop(&mut parts.outer);
@@ -202,6 +215,7 @@ fn line_ahead(parts: &Parts, reads: &mut u64) -> Turn
     requires whole { IsWhole parts.now }
     requires fresh { parts.now.state.fresh ≡ true }
     ensures comes { Comes parts.now result }
+    ensures looked { Grows reads.old (passed result) reads.new }
 {
     let bytes = parts.text.as_bytes();
     line_turn(&parts.widths, &bytes[parts.state.place..], reads)
@@ -216,6 +230,8 @@ fn begin_line(parts: &mut Parts) -> Option<Answer>
     ensures text { parts.new.text.now ≡ parts.old.text.now }
     ensures gives { Begins parts.old result parts.new }
     ensures spans { Spans parts.old.text.now result }
+    ensures moves { Moves parts.old parts.new }
+    ensures reaches { Reaches result parts.new.state.place }
 {
     let mut reads = parts.reads;
     let turn = line_ahead(parts, &mut reads);
@@ -237,6 +253,8 @@ fn fit(parts: &mut Parts, turn: Turn, kept: usize, gap: usize) -> Option<Answer>
     ensures text { parts.new.text.now ≡ parts.old.text.now }
     ensures gives { Begins parts.old result parts.new }
     ensures spans { Spans parts.old.text.now result }
+    ensures goes { Advances parts.old parts.new (passed turn) }
+    ensures reaches { Reaches result parts.new.state.place }
 {
     let place = parts.state.place;
     let closed = parts.widths.len() - kept;
@@ -260,6 +278,8 @@ fn deepen(parts: &mut Parts, turn: Turn, width: usize, gap: usize) -> Answer
     ensures text { parts.new.text.now ≡ parts.old.text.now }
     ensures gives { Hands (left parts.old) (Some result) (left parts.new) }
     ensures spans { Spans parts.old.text.now (Some result) }
+    ensures goes { Advances parts.old parts.new (passed turn) }
+    ensures reaches { Reaches (Some result) parts.new.state.place }
 {
     let place = parts.state.place;
     if parts.widths.push(width).is_err() {
@@ -282,6 +302,7 @@ fn pass_over(parts: &mut Parts)
     ensures same { left parts.new ≡ left parts.old }
     ensures ready { IsReady parts.new }
     ensures stands { Stands parts.new }
+    ensures moves { Moves parts.old parts.new }
 {
     let joined = is_joined(parts.state);
     let bytes = parts.text.as_bytes();
@@ -298,6 +319,7 @@ fn lexeme_ahead(parts: &Parts, reads: &mut u64) -> Turn
     requires among { in_text parts.now.state.mode ≡ false }
     ensures comes { Comes parts.now result }
     ensures lexical { IsLexical result }
+    ensures looked { Grows reads.old (passed result) reads.new }
 {
     let bytes = parts.text.as_bytes();
     here(parts.state.mode, &bytes[parts.state.place..], reads)
@@ -310,6 +332,7 @@ fn text_ahead(parts: &Parts, begin: usize, form: Form, reads: &mut u64) -> Turn
     requires mode { parts.now.state.mode ≡ Inside begin form }
     ensures comes { Comes parts.now result }
     ensures lexical { IsLexical result }
+    ensures looked { Grows reads.old (passed result) reads.new }
 {
     let bytes = parts.text.as_bytes();
     text_here(form, &bytes[parts.state.place..], reads)
@@ -325,6 +348,8 @@ fn in_format(parts: &mut Parts, begin: usize, form: Form) -> Answer
     ensures text { parts.new.text.now ≡ parts.old.text.now }
     ensures gives { Hands (left parts.old) (Some result) (left parts.new) }
     ensures spans { Spans parts.old.text.now (Some result) }
+    ensures moves { Moves parts.old parts.new }
+    ensures reaches { Reaches (Some result) parts.new.state.place }
 {
     let mut reads = parts.reads;
     let turn = text_ahead(parts, begin, form, &mut reads);
@@ -342,6 +367,8 @@ fn in_code(parts: &mut Parts) -> Answer
     ensures text { parts.new.text.now ≡ parts.old.text.now }
     ensures gives { Hands (left parts.old) (Some result) (left parts.new) }
     ensures spans { Spans parts.old.text.now (Some result) }
+    ensures moves { Moves parts.old parts.new }
+    ensures reaches { Reaches (Some result) parts.new.state.place }
 {
     pass_over(parts);
     let mut reads = parts.reads;
@@ -359,6 +386,8 @@ fn in_line(parts: &mut Parts) -> Answer
     ensures text { parts.new.text.now ≡ parts.old.text.now }
     ensures gives { Hands (left parts.old) (Some result) (left parts.new) }
     ensures spans { Spans parts.old.text.now (Some result) }
+    ensures moves { Moves parts.old parts.new }
+    ensures reaches { Reaches (Some result) parts.new.state.place }
 {
     match parts.state.mode {
         Mode::Inside(begin, form) => in_format(parts, begin, form),
@@ -374,6 +403,8 @@ pub(crate) fn next(parts: &mut Parts) -> Option<Answer>
     ensures text { parts.new.text.now ≡ parts.old.text.now }
     ensures gives { Hands (left parts.old) result (left parts.new) }
     ensures spans { Spans parts.old.text.now result }
+    ensures moves { Moves parts.old parts.new }
+    ensures reaches { Reaches result parts.new.state.place }
 {
     if parts.pending > 0 {
         parts.pending -= 1;

@@ -8,6 +8,9 @@ ghost use Rattle.starlark_lexer.specs.Classes as classes;
 ghost use Rattle.starlark_lexer.specs.Scan as spec;
 ghost use Rattle.starlark_lexer.specs.Scan.{depth_of, IsClass, IsEnding};
 ghost use Rattle.starlark_lexer.specs.Literals as literals;
+ghost use Rattle.starlark_lexer.specs.Fronts as fronts;
+ghost use Rattle.starlark_lexer.specs.Reads.{Grows};
+ghost use Rattle.starlark_lexer.specs.Turns.{passed};
 
 use crate::literal::{Ending, Form, body, is_format, opening, quotes};
 use crate::token::LexemeError;
@@ -97,7 +100,8 @@ pub(crate) enum Turn {
 
 /// Counts so many bytes as looked at.
 fn look(reads: &mut u64, n: usize)
-    ensures { reads.new ≤ reads.old + n }
+    ensures paid { reads.new ≤ reads.old + n }
+    ensures looked { Grows reads.old n reads.new }
 {
     *reads = reads.saturating_add(n as u64);
 }
@@ -122,6 +126,7 @@ fn run(class: Class, bytes: &[u8], reads: &mut u64) -> usize
     ensures value { result ≡ prefix_len (spec.is_in class) bytes.now }
     ensures within { result ≤ length bytes.now }
     ensures moves { 0 < length bytes.now → spec.is_in class (slice_index bytes.now 0) ≡ true → 0 < result }
+    ensures looked { Grows reads.old result reads.new }
 {
     let mut end = 0;
     while end < bytes.len() && is_in(class, bytes[end]) {
@@ -209,7 +214,8 @@ fn single(bytes: &[u8]) -> Option<Operator>
 
 /// The operator at the front, or the fault of a character that begins no lexeme.
 fn operator(bytes: &[u8], reads: &mut u64) -> (Found, usize)
-    ensures { result ≡ spec.operator (spec.first_row classes.operators bytes.now) }
+    ensures value { result ≡ spec.operator (spec.first_row classes.operators bytes.now) }
+    ensures looked { Grows reads.old result.1 reads.new }
 {
     look(reads, 3);
     if let Some(operator) = single(bytes) {
@@ -226,6 +232,7 @@ fn operator(bytes: &[u8], reads: &mut u64) -> (Found, usize)
 fn signed_len(bytes: &[u8], reads: &mut u64) -> usize
     ensures value { result ≡ spec.signed_len bytes.now }
     ensures within { result ≤ length bytes.now }
+    ensures looked { Grows reads.old result reads.new }
 {
     if bytes.is_empty() {
         return 0;
@@ -243,6 +250,7 @@ fn signed_len(bytes: &[u8], reads: &mut u64) -> usize
 fn exponent_len(bytes: &[u8], reads: &mut u64) -> usize
     ensures value { result ≡ spec.exponent_len bytes.now }
     ensures within { result ≤ length bytes.now }
+    ensures looked { Grows reads.old result reads.new }
 {
     if bytes.is_empty() {
         return 0;
@@ -264,6 +272,7 @@ fn exponent_len(bytes: &[u8], reads: &mut u64) -> usize
 fn fraction_len(bytes: &[u8], reads: &mut u64) -> usize
     ensures value { result ≡ spec.fraction_len bytes.now }
     ensures within { result ≤ length bytes.now }
+    ensures looked { Grows reads.old result reads.new }
 {
     if bytes.is_empty() {
         return 0;
@@ -280,6 +289,7 @@ fn fraction_len(bytes: &[u8], reads: &mut u64) -> usize
 fn tail_len(bytes: &[u8], reads: &mut u64) -> usize
     ensures value { result ≡ spec.tail_len bytes.now }
     ensures within { result ≤ length bytes.now }
+    ensures looked { Grows reads.old result reads.new }
 {
     let fraction = fraction_len(bytes, reads);
     if fraction == 0 {
@@ -311,6 +321,8 @@ fn based(bytes: &[u8], reads: &mut u64) -> (u32, usize)
     ensures digits { result.1 ≡ spec.based_len bytes.now }
     ensures radix { 0 < result.1 → result.0 ≡ classes.base_of bytes.now }
     ensures within { 0 < result.1 → result.1 + 2 ≤ length bytes.now }
+    ensures looked { Grows reads.old result.1 reads.new }
+    ensures letter { 0 < result.1 → Grows reads.old (result.1 + 2) reads.new }
 {
     if bytes.len() < 2 {
         return (0, 0);
@@ -326,7 +338,8 @@ fn based(bytes: &[u8], reads: &mut u64) -> (u32, usize)
 /// A point and a digit stand at the front.
 fn is_pointed(bytes: &[u8], reads: &mut u64) -> bool
     requires { 0 < length bytes.now }
-    ensures { result ≡ spec.is_pointed bytes.now }
+    ensures value { result ≡ spec.is_pointed bytes.now }
+    ensures looked { Grows reads.old 0 reads.new }
 {
     look(reads, 2);
     bytes[0] == b'.' && bytes.len() > 1 && bytes[1].is_ascii_digit()
@@ -346,6 +359,7 @@ fn number(bytes: &[u8], reads: &mut u64) -> (Found, usize)
     ensures found { result.0 ≡ (spec.number_scan bytes.now).0 }
     ensures len { result.1 ≡ (spec.number_scan bytes.now).1 }
     ensures within { result.1 ≤ length bytes.now }
+    ensures looked { Grows reads.old result.1 reads.new }
 {
     let (radix, digits) = based(bytes, reads);
     if digits > 0 {
@@ -370,6 +384,7 @@ fn scan_more(bytes: &[u8], reads: &mut u64) -> (Found, usize)
     requires { 0 < length bytes.now }
     ensures found { result.0 ≡ (spec.scan_more bytes.now).0 }
     ensures len { result.1 ≡ (spec.scan_more bytes.now).1 }
+    ensures looked { Grows reads.old result.1 reads.new }
 {
     look(reads, 1);
     let b = bytes[0];
@@ -395,6 +410,7 @@ fn scan(bytes: &[u8], reads: &mut u64) -> (Found, usize)
     requires { 0 < length bytes.now }
     ensures found { result.0 ≡ (spec.scan bytes.now).0 }
     ensures len { result.1 ≡ (spec.scan bytes.now).1 }
+    ensures looked { Grows reads.old result.1 reads.new }
 {
     match opening(bytes, reads) {
         Some((form, len)) => (Found::Opens(form), len),
@@ -407,6 +423,8 @@ fn scan(bytes: &[u8], reads: &mut u64) -> (Found, usize)
 fn line_end(bytes: &[u8], reads: &mut u64) -> usize
     ensures value { result ≡ classes.line_end bytes.now }
     ensures within { result ≤ length bytes.now }
+    ensures short { result ≤ 2 }
+    ensures looked { Grows reads.old 2 reads.new }
 {
     look(reads, 2);
     if bytes.is_empty() {
@@ -425,6 +443,7 @@ fn line_end(bytes: &[u8], reads: &mut u64) -> usize
 fn line_len(bytes: &[u8], reads: &mut u64) -> usize
     ensures value { result ≡ classes.line_len bytes.now }
     ensures within { result ≤ length bytes.now }
+    ensures looked { Grows reads.old result reads.new }
 {
     let mut end = 0;
     while end < bytes.len() && line_end(&bytes[end..], reads) == 0 {
@@ -438,6 +457,7 @@ fn line_len(bytes: &[u8], reads: &mut u64) -> usize
 fn pass(joined: bool, bytes: &[u8], reads: &mut u64) -> usize
     ensures value { result ≡ spec.pass joined bytes.now }
     ensures within { result ≤ length bytes.now }
+    ensures looked { Grows reads.old result reads.new }
 {
     if bytes.is_empty() {
         return 0;
@@ -461,6 +481,7 @@ fn pass(joined: bool, bytes: &[u8], reads: &mut u64) -> usize
 pub(crate) fn gap(joined: bool, bytes: &[u8], reads: &mut u64) -> usize
     ensures value { result ≡ spec.gap joined 0 bytes.now }
     ensures within { result ≤ length bytes.now }
+    ensures looked { Grows reads.old result reads.new }
 {
     let mut end = 0;
     loop {
@@ -495,7 +516,8 @@ fn at_ground(mode: Mode) -> bool
 
 /// What comes in the text of an f-string whose run ends like that.
 fn text_turn(form: Form, ending: Ending) -> Turn
-    ensures { result ≡ spec.text_turn form ending }
+    ensures value { result ≡ spec.text_turn form ending }
+    ensures passed { passed result ≤ fronts.reached form.quote ending }
 {
     match ending {
         Ending::Closed(0) => Turn::Leave(quotes(form.quote)),
@@ -509,7 +531,8 @@ fn text_turn(form: Form, ending: Ending) -> Turn
 
 /// What comes at a place in the text of an f-string.
 pub(crate) fn text_here(form: Form, bytes: &[u8], reads: &mut u64) -> Turn
-    ensures { result ≡ spec.text_turn form (literals.body form 0 bytes.now) }
+    ensures value { result ≡ spec.text_turn form (literals.body form 0 bytes.now) }
+    ensures looked { Grows reads.old (passed result) reads.new }
 {
     text_turn(form, body(form, bytes, reads))
 }
@@ -517,7 +540,8 @@ pub(crate) fn text_here(form: Form, bytes: &[u8], reads: &mut u64) -> Turn
 /// What a literal with so many bytes of prefix and quotes comes to, whose body ends like that.
 fn literal_turn(form: Form, from: usize, ending: Ending) -> Turn
     requires { IsEnding from ending }
-    ensures { result ≡ spec.literal_turn form from ending }
+    ensures value { result ≡ spec.literal_turn form from ending }
+    ensures passed { passed result ≤ from + fronts.reached form.quote ending }
 {
     match ending {
         Ending::Closed(len) => {
@@ -538,7 +562,8 @@ fn literal_turn(form: Form, from: usize, ending: Ending) -> Turn
 fn opens_turn(form: Form, from: usize, bytes: &[u8], reads: &mut u64) -> Turn
     requires within { from ≤ length bytes.now }
     requires short { length bytes.now < 2 ^ 63 }
-    ensures { result ≡ spec.opens_turn form from bytes.now }
+    ensures value { result ≡ spec.opens_turn form from bytes.now }
+    ensures looked { Grows reads.old (passed result - from) reads.new }
 {
     if is_format(form.sort) {
         return Turn::Enter(form, from);
@@ -551,6 +576,7 @@ fn opens_turn(form: Form, from: usize, bytes: &[u8], reads: &mut u64) -> Turn
 pub(crate) fn here(mode: Mode, bytes: &[u8], reads: &mut u64) -> Turn
     requires { length bytes.now < 2 ^ 63 }
     ensures value { result ≡ spec.here mode bytes.now }
+    ensures looked { Grows reads.old (passed result) reads.new }
 {
     if bytes.is_empty() {
         return Turn::End(0);
@@ -608,6 +634,7 @@ fn kept(widths: &[usize], width: usize) -> usize
 #[tactic(auto, unfolding(crate::specs::Scan::fits))]
 fn fits(widths: &[usize], width: usize, gap: usize) -> Turn
     ensures value { result ≡ spec.fits widths.now width gap }
+    ensures passed { passed result ≤ gap }
 {
     let kept = kept(widths, width);
     if is_open(widths, width) {
@@ -636,6 +663,7 @@ fn spaces(blanks: &[u8]) -> usize
 pub(crate) fn line_turn(widths: &[usize], bytes: &[u8], reads: &mut u64) -> Turn
     requires { length bytes.now < 2 ^ 63 }
     ensures value { result ≡ spec.line_turn widths.now bytes.now }
+    ensures looked { Grows reads.old (passed result) reads.new }
 {
     let gap = run(Class::Blank, bytes, reads);
     let rest = &bytes[gap..];

@@ -44,7 +44,8 @@ pub(crate) fn after(
     requires place { state.place + begin + len < 2 ^ 64 }
     requires next { state.place + next < 2 ^ 64 }
     requires depth { depth_of state.mode < 2 ^ 63 }
-    ensures { result ≡ spec.after state begin kind len next fresh }
+    ensures value { result ≡ spec.after state begin kind len next fresh }
+    ensures place { result.place ≡ state.place + next }
 {
     let place = state.place;
     let mut state = State {
@@ -91,7 +92,8 @@ fn is_newline(kind: Kind) -> bool
 
 pub(crate) fn turned(state: State, n: usize, mode: Mode) -> State
     requires { state.place + n < 2 ^ 64 }
-    ensures { result ≡ spec.turned state n mode }
+    ensures value { result ≡ spec.turned state n mode }
+    ensures place { result.place ≡ state.place + n }
 {
     State {
         place: state.place + n,

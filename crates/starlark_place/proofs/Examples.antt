@@ -1,7 +1,7 @@
 -- The definitions of places and of indices at some literals.
-use Rattle.std.proofs.Common.{◌≡◌, [], ◌∷◌, refl, Some, None}
+use Rattle.std.proofs.Common.{◌≡◌, [], ◌∷◌, refl, Some}
 use Rattle.std.specs.Prelude.{◌++◌, codes, decimal, List, ℕ, pos, negsuc}
-use Rattle.starlark_place.specs.Place.{extent, line_extent, trimmed_extent, line_feeds, merged_all, bare_line, line_text}
+use Rattle.starlark_place.specs.Place.{extent, line_extent, trimmed_extent, merged_all, bare_line, line_text}
 use Rattle.starlark_place.specs.Resolved.{resolved, resolved_span}
 use Rattle.starlark_place.specs.Shown.{shown_span}
 use Rattle.starlark_place.specs.Strings.{matches_in, index_in, piece_begin, piece_end}

@@ -165,7 +165,7 @@ impl CodeMap {
             && source.is_char_boundary(span.end().get() as usize)
     }
 
-    /// The byte at a place below the length.
+    /// The byte at a place below the length, which `source` tells.
     pub fn byte_at(&self, pos: Pos) -> u8
         requires { pos < length self.now.source }
         ensures { result ≡ slice_index self.now.source pos }
@@ -173,7 +173,7 @@ impl CodeMap {
         self.data.source.as_bytes()[pos.get() as usize]
     }
 
-    /// The line of a place, from 0. The place is at most the length.
+    /// The line of a place, from 0. The place is at most the length, which `source` tells.
     pub fn find_line(&self, pos: Pos) -> usize
         requires { pos ≤ length self.now.source }
         ensures { result ≡ line_at self.now.source pos }
@@ -189,7 +189,7 @@ impl CodeMap {
         self.data.lines.as_slice().len()
     }
 
-    /// A line, from 0, with its line feed. It is at most the number of line feeds.
+    /// A line, from 0, with its line feed. It is at most the number of line feeds: `line_span_opt` tells that.
     pub fn line_span(&self, line: usize) -> Span
         requires { line ≤ line_feeds self.now.source }
         ensures is { result ≡ line_extent self.now.source line }
@@ -213,7 +213,7 @@ impl CodeMap {
     }
 
     /// A line, from 0, without its line feed and one carriage return right before it. It is at most the number of line
-    /// feeds.
+    /// feeds: `line_span_opt` tells that.
     pub fn line_span_trim_newline(&self, line: usize) -> Span
         requires { line ≤ line_feeds self.now.source }
         ensures is { result ≡ trimmed_extent self.now.source line }
@@ -224,7 +224,8 @@ impl CodeMap {
         Span::new(span.begin(), span.end() - cut)
     }
 
-    /// A line, from 0, without all carriage returns and line feeds at its end. It is at most the number of line feeds.
+    /// A line, from 0, without all carriage returns and line feeds at its end. It is at most the number of line feeds:
+    /// `line_span_opt` tells that.
     pub fn source_line(&self, line: usize) -> &str
         requires { line ≤ line_feeds self.now.source }
         ensures { result.now ≡ bare_line (line_text self.now.source line) }
@@ -233,7 +234,8 @@ impl CodeMap {
         &text[..bare_len(text)]
     }
 
-    /// The line of a place, without all carriage returns and line feeds at its end. The place is at most the length.
+    /// The line of a place, without all carriage returns and line feeds at its end. The place is at most the length, which
+    /// `source` tells.
     pub fn source_line_at_pos(&self, pos: Pos) -> &str
         requires { pos ≤ length self.now.source }
         ensures { result.now ≡ bare_line (line_text self.now.source (line_at self.now.source pos)) }
@@ -241,7 +243,7 @@ impl CodeMap {
         self.source_line(self.find_line(pos))
     }
 
-    /// The text of a stretch.
+    /// The text of a stretch that lies in the source and cuts no character: `holds` tells that.
     pub fn source_span(&self, span: Span) -> &str
         requires { Holds self.now.source span }
         ensures { result.now ≡ slice_range self.now.source span.begin span.end }
@@ -249,7 +251,8 @@ impl CodeMap {
         &self.data.source.as_str()[span.begin().get() as usize..span.end().get() as usize]
     }
 
-    /// The stretch of this source. It is refused where std refuses shared data one more owner.
+    /// The stretch of this source, where it lies in it and cuts no character: `holds` tells that. It is refused where std
+    /// refuses shared data one more owner.
     pub fn file_span(&self, span: Span) -> Result<FileSpan, AllocError>
         requires { Holds self.now.source span }
         ensures { IfOk result (λ s. s ≡ file_place self.now span) }
@@ -260,7 +263,7 @@ impl CodeMap {
         })
     }
 
-    /// The lines and columns of both ends.
+    /// The lines and columns of both ends of a stretch that lies in the source and cuts no character: `holds` tells that.
     pub fn resolve_span(&self, span: Span) -> ResolvedSpan
         requires { Holds self.now.source span }
         ensures { result ≡ resolved_span self.now.source span }

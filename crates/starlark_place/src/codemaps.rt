@@ -1,6 +1,6 @@
 //! Code maps by their ids.
 
-ghost use Rattle.std.specs.Prelude.{◌≡◌, ℕ, None, OnOk, OnErr};
+ghost use Rattle.std.specs.Prelude.{◌≡◌, ℕ, IsOk, IsSome, None, OnErr, OnOk};
 ghost use Rattle.std.specs.Option.{option_map};
 ghost use Rattle.starlark_place.specs.Maps.{map_of, with_entry, with_map, with_maps};
 
@@ -34,10 +34,11 @@ impl CodeMaps {
     }
 
     /// Adds a map, unless there is one of its id. Where memory or one more owner of the map cannot be had it is refused,
-    /// and nothing changes.
+    /// and nothing changes. That is never where there is one of its id.
     pub fn add(&mut self, codemap: &CodeMap) -> Result<(), AllocError>
         ensures added { OnOk result ((id : ℕ) → map_of self.new id ≡ with_map (map_of self.old) codemap.now id) }
         ensures stays { OnErr result ((id : ℕ) → map_of self.new id ≡ map_of self.old id) }
+        ensures there { IsSome (map_of self.old codemap.now.id) → IsOk result }
     {
         self.put(codemap.id().0, codemap)
     }
@@ -59,6 +60,7 @@ impl CodeMaps {
     fn put(&mut self, id: u64, codemap: &CodeMap) -> Result<(), AllocError>
         ensures added { OnOk result ((q : ℕ) → map_of self.new q ≡ with_entry (map_of self.old) id codemap.now q) }
         ensures stays { OnErr result ((q : ℕ) → map_of self.new q ≡ map_of self.old q) }
+        ensures there { IsSome (map_of self.old id) → IsOk result }
     {
         if !self.maps.contains_key(&id) {
             self.maps.insert(id, codemap.dupe()?)?;

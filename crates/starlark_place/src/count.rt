@@ -9,7 +9,7 @@ use std::simd::prelude::*;
 const LANES: usize = 32;
 
 /// The number of characters of a text, as bytes: of its bytes that go on with no character before them.
-pub fn char_count(text: &[u8]) -> usize
+pub(crate) fn char_count(text: &[u8]) -> usize
     ensures { result ≡ characters text.now }
 {
     let mut count = 0;
@@ -22,7 +22,7 @@ pub fn char_count(text: &[u8]) -> usize
 }
 
 /// How many bytes of a text are `byte`.
-pub fn byte_count(text: &[u8], byte: u8) -> usize
+pub(crate) fn byte_count(text: &[u8], byte: u8) -> usize
     ensures { result ≡ count_by (λ b. b == byte) text.now }
 {
     let mut count = 0;

@@ -46,7 +46,8 @@ impl<'a> CursorBytes<'a> {
         Some(byte)
     }
 
-    /// The character at the place, which moves behind it, or none at the end. The place is at a character's boundary.
+    /// The character at the place, which moves behind it, or none at the end. The place is at a character's boundary:
+    /// `str::is_char_boundary` tells that of `pos`.
     pub fn next_char(&mut self) -> Option<char>
         requires { IsCharBoundary self.old.text self.old.place }
         ensures takes { TakesChar self.old result self.new }
@@ -85,7 +86,7 @@ impl<'a> Model for CursorChars<'a> {
 }
 
 impl<'a> CursorChars<'a> {
-    /// Behind `offset` bytes of a text, at a character's boundary.
+    /// Behind `offset` bytes of a text, at a character's boundary: `str::is_char_boundary` tells that.
     pub fn new_offset(text: &'a str, offset: usize) -> CursorChars<'a>
         requires { IsCharBoundary text.now offset }
         ensures { result ≡ at text.now offset }
@@ -112,7 +113,7 @@ impl<'a> CursorChars<'a> {
         self.text[self.place..].chars().next()
     }
 
-    /// Moves back by `c`, which stands right before the place.
+    /// Moves back by `c`, which stands right before the place, as behind a `next` that gave it.
     pub fn unnext(&mut self, c: char)
         requires { (before : At) × IsNext before c self.old }
         ensures { IsNext self.new c self.old }

@@ -59,8 +59,8 @@ pub struct WithDiagnostic<T> {
 }
 
 impl<T> WithDiagnostic<T> {
-    /// The value at a stretch of the source, with no calls. It is refused where memory or one more owner of the map
-    /// cannot be had.
+    /// The value at a stretch of the source, with no calls. The stretch lies in the source and cuts no character:
+    /// `CodeMap::holds` tells that. It is refused where memory or one more owner of the map cannot be had.
     pub fn new_spanned(
         alloc: Global,
         inner: T,
@@ -130,8 +130,8 @@ impl<T> WithDiagnostic<T> {
         self.diagnostic.span.as_ref()
     }
 
-    /// Sets the place where none is set. Else nothing changes. It is refused where one more owner of the map cannot be
-    /// had.
+    /// Sets the place where none is set. Else nothing changes. The stretch lies in the source and cuts no character:
+    /// `CodeMap::holds` tells that. It is refused where one more owner of the map cannot be had.
     pub fn set_span(&mut self, span: Span, codemap: &CodeMap) -> Result<(), AllocError>
         requires { Holds codemap.now.source span }
         ensures inner { inner_of self.new ≡ inner_of self.old }
@@ -149,7 +149,7 @@ impl<T> WithDiagnostic<T> {
     pub fn set_call_stack<F: FnOnce() -> CallStack>(&mut self, calls: F)
     where
         F: Drop,
-        requires { F.pre calls }
+        requires { frames_of self.old ≡ [] → F.pre calls }
         ensures inner { inner_of self.new ≡ inner_of self.old }
         ensures span { span_of self.new ≡ span_of self.old }
         ensures called { frames_of self.old ≡ [] → (s : _) × F.post calls s × (frames_of self.new ≡ s.frames.items) }
@@ -178,7 +178,8 @@ pub enum Refusal<T> {
 }
 
 impl<T: Drop> Refusal<T> {
-    /// The error at a stretch of the source, or `Memory` where memory or one more owner of the map cannot be had.
+    /// The error at a stretch of the source, or `Memory` where memory or one more owner of the map cannot be had. The
+    /// stretch lies in the source and cuts no character: `CodeMap::holds` tells that.
     pub fn new(alloc: Global, error: T, span: Span, codemap: &CodeMap) -> Refusal<T>
         requires { Holds codemap.now.source span }
         ensures { Refuses error (file_place codemap.now span) result }
@@ -202,12 +203,14 @@ impl<T: fmt::Display> fmt::Display for WithDiagnostic<T> {
     }
 }
 
-/// The lines and columns of an error's place, if it has one. It is refused where memory runs out.
+/// The lines and columns of an error's place, if it has one. It is refused where memory runs out, which it never does
+/// where there is no place: want of memory has none.
 pub fn _testing_loc<T>(
     alloc: Global,
     refusal: &Refusal<T>,
 ) -> Result<Option<ResolvedFileSpan>, AllocError>
-    ensures { IfOk result (λ found. IsResolved (place_of refusal.now) found) }
+    ensures found { IfOk result (λ found. IsResolved (place_of refusal.now) found) }
+    ensures sure { place_of refusal.now ≡ None → IsOk result }
 {
     let Refusal::Fault(fault) = refusal else {
         return Ok(None);

@@ -3,7 +3,7 @@
 
 pub mod codemap;
 pub mod codemaps;
-pub mod count;
+mod count;
 pub mod cursor;
 pub mod diagnostic;
 pub mod fast_string;
@@ -11,5 +11,3 @@ pub mod file_span;
 pub mod laws;
 pub mod pos;
 pub mod resolved;
-#[cfg(test)]
-mod tests;

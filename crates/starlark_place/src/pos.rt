@@ -4,6 +4,7 @@ ghost use Rattle.std.specs.Prelude.{◌≡◌, ◌+◌, ◌-◌, ◌^◌, ◌<�
 ghost use Rattle.std.specs.Iterator.{IsFinite};
 ghost use Rattle.std.specs.Option.{unwrap_or};
 ghost use Rattle.std.specs.Iterator.Runs.{WholeRun};
+ghost use Rattle.starlark_place.specs.Laws.{Intersects};
 ghost use Rattle.starlark_place.specs.Place.{merged_all, merged_into, Extent, extent, merged};
 
 use std::marker::Model;
@@ -160,7 +161,7 @@ impl Span {
 
     /// Whether each begins at or before the other's end.
     pub fn intersects(self, span: Span) -> bool
-        ensures { IsTrue result ↔ (self.begin ≤ span.end) × (span.begin ≤ self.end) }
+        ensures { IsTrue result ↔ Intersects self span }
     {
         span.begin <= self.end && self.begin <= span.end
     }

@@ -1,8 +1,9 @@
 use Rattle.std.proofs.Common.{◌≡◌, ◌+◌, drop, arith, ap, sym, ◌∙◌, None}
 use Rattle.std.proofs.lemmas.List.{length-drop, drop-drop, take_rest}
 use Rattle.std.specs.List.{prefix_len}
-use Rattle.starlark_lexer.specs.Fronts.{ending_at, is_plain, width}
+use Rattle.starlark_lexer.specs.Fronts.{ending_at, is_plain, passed, width}
 use Rattle.starlark_lexer.specs.Literals.{body, later, piece}
+use Rattle.starlark_lexer.proofs.Looks.{on_passed}
 use Rattle.starlark_lexer.proofs.Pieces.{IsCut}
 use Rattle.starlark_lexer.proofs.Bodies.{piece_is, at_end, past_piece, width_of, at_text_end}
 use Rattle.starlark_lexer.proofs.Values.{past_run}
@@ -16,14 +17,14 @@ overflow_add-at-in-loop-at c =
     let cut : IsCut rest (width c.next_piece-piece.result) = width_of f i rest c.next_piece-piece.result (piece_is f i c.args.bytes.now c.next_piece-piece.result c.next_piece-piece.ensures.value) (sym c.ending_at.ensures ∙ c.in_default.is) in
     omega (arith, cut.within, c.width-at.ensures, length-drop i c.args.bytes.now)
 
-pub returns-in-Some : goal.returns-in-Some
-returns-in-Some c =
+pub returns-in-Some-clause-value : goal.returns-in-Some-clause-value
+returns-in-Some-clause-value c =
     let f = c.args.form in
     let i = c.loop-at.at + c.plain_run-at.result in
     let bytes = c.args.bytes.now in
     let run = c.plain_run-at.ensures.value ∙ ap (prefix_len is_plain) (take_rest bytes c.loop-at.at) in
     let front = past_run f c.loop-at.at c.plain_run-at.result bytes (body f 0 bytes) c.loop-at.invariant.rest run in
-    record { value = at_end f i (drop i bytes) c.next_piece-piece.result c.in-Some.ending (body f 0 bytes) front (piece_is f i bytes c.next_piece-piece.result c.next_piece-piece.ensures.value) (sym c.ending_at.ensures ∙ c.in-Some.is) }
+    at_end f i (drop i bytes) c.next_piece-piece.result c.in-Some.ending (body f 0 bytes) front (piece_is f i bytes c.next_piece-piece.result c.next_piece-piece.ensures.value) (sym c.ending_at.ensures ∙ c.in-Some.is)
 
 pub loop-at-smaller : goal.loop-at-smaller
 loop-at-smaller c =
@@ -49,11 +50,12 @@ loop-at-preserved c =
     record {
       rest = (λ j. later (i + n j) (body f 0 (drop (i + n j) bytes))) ∙ past_piece f i rest (drop (i + width p) bytes) p (body f 0 bytes) front is on (sym (drop-drop (width p) i bytes));
       within = omega (arith, cut.within, n, length-drop i bytes);
+      looked = let past : passed f.quote p ≡ width p = on_passed f.quote i p on in record { up = omega arith; least = omega (arith, n) };
     }
 
-pub returns : goal.returns
-returns c =
+pub returns-clause-value : goal.returns-clause-value
+returns-clause-value c =
     let f = c.args.form in
     let i = c.loop-at.at in
     let bytes = c.args.bytes.now in
-    record { value = at_text_end f i (drop i bytes) (body f 0 bytes) c.loop-at.invariant.rest (omega (arith, length-drop i bytes)) }
+    at_text_end f i (drop i bytes) (body f 0 bytes) c.loop-at.invariant.rest (omega (arith, length-drop i bytes))

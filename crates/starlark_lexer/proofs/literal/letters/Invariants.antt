@@ -1,9 +1,10 @@
 use Rattle.std.proofs.Common.{◌≡◌, ◌+◌, ◌-◌, ◌≤◌, length, drop}
 use Rattle.starlark_lexer.specs.Literals.{letters}
+use Rattle.starlark_lexer.specs.Reads.{Grows}
 use Rattle.starlark_lexer.proofs.literal.letters.Given as goal
 
 abbrev pub invariant-loop-end : goal.invariant-loop-end
-invariant-loop-end l = (l.end + letters (drop l.end l.bytes) ≡ letters l.bytes) × ((l.end ≤ length l.bytes) × (l.reads ≤ l.initial.reads + l.end))
+invariant-loop-end l = (l.end + letters (drop l.end l.bytes) ≡ letters l.bytes) × ((l.end ≤ length l.bytes) × ((l.reads ≤ l.initial.reads + l.end) × Grows l.initial.reads l.end l.reads))
 
 abbrev pub decreases-loop-end : goal.decreases-loop-end
 decreases-loop-end l = length l.bytes - l.end

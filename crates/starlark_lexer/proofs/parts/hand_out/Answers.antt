@@ -31,22 +31,22 @@ pub returns-in-Open-clause-whole : goal.returns-in-Open-clause-whole
 returns-in-Open-clause-whole c =
     let a = c.args.parts.now in
     let bounds = subst (Bounds (drop a.state.place a.text.now)) c.in-Open.is c.requires.comes.bounds in
-    mode_sound a.text.now a.state a.outer.items a.margin c.requires.whole 1 c.field_of.result (field_of a.state.mode) bounds (field_mode a.text.now a.state.place a.state.mode c.requires.whole.mode) c.field_of.ensures c.turned-parts.result c.turned-parts.ensures
+    mode_sound a.text.now a.state a.outer.items a.margin c.requires.whole 1 c.field_of.result (field_of a.state.mode) bounds (field_mode a.text.now a.state.place a.state.mode c.requires.whole.mode) c.field_of.ensures c.turned-parts.result c.turned-parts.ensures.value
 
 pub returns-in-Open-clause-gives : goal.returns-in-Open-clause-gives
 returns-in-Open-clause-gives c =
     let a = c.args.parts.now in
     let b : Parts = record a { state = c.turned-parts.result } in
-    open_left a c.args.turn c.requires.ready c.requires.comes c.in-Open.is b refl refl refl (c.turned-parts.ensures ∙ ap (turned a.state 1) c.field_of.ensures) c.requires.ready.none c.requires.ready.more
+    open_left a c.args.turn c.requires.ready c.requires.comes c.in-Open.is b refl refl refl (c.turned-parts.ensures.value ∙ ap (turned a.state 1) c.field_of.ensures) c.requires.ready.none c.requires.ready.more
 
 pub returns-in-Shut-clause-whole : goal.returns-in-Shut-clause-whole
 returns-in-Shut-clause-whole c =
     let a = c.args.parts.now in
     let bounds = subst (Bounds (drop a.state.place a.text.now)) c.in-Shut.is c.requires.comes.bounds in
-    mode_sound a.text.now a.state a.outer.items a.margin c.requires.whole 1 c.body_of.result (body_of a.state.mode) bounds (body_mode a.text.now a.state.place a.state.mode c.requires.whole.mode) c.body_of.ensures c.turned-parts-in-Shut.result c.turned-parts-in-Shut.ensures
+    mode_sound a.text.now a.state a.outer.items a.margin c.requires.whole 1 c.body_of.result (body_of a.state.mode) bounds (body_mode a.text.now a.state.place a.state.mode c.requires.whole.mode) c.body_of.ensures c.turned-parts-in-Shut.result c.turned-parts-in-Shut.ensures.value
 
 pub returns-in-Shut-clause-gives : goal.returns-in-Shut-clause-gives
 returns-in-Shut-clause-gives c =
     let a = c.args.parts.now in
     let b : Parts = record a { state = c.turned-parts-in-Shut.result } in
-    shut_left a c.args.turn c.requires.ready c.requires.comes c.in-Shut.is b refl refl refl (c.turned-parts-in-Shut.ensures ∙ ap (turned a.state 1) c.body_of.ensures) c.requires.ready.none c.requires.ready.more
+    shut_left a c.args.turn c.requires.ready c.requires.comes c.in-Shut.is b refl refl refl (c.turned-parts-in-Shut.ensures.value ∙ ap (turned a.state 1) c.body_of.ensures) c.requires.ready.none c.requires.ready.more

@@ -7,7 +7,7 @@ use Rattle.starlark_lexer.proofs.scan.line_len.Goals as goal
 pub loop-end-preserved : goal.loop-end-preserved
 loop-end-preserved c =
     let is : c.line_end.result ≡ line_end (drop c.loop-end.end c.args.bytes.now) = c.line_end.ensures.value ∙ ap line_end (take_rest c.args.bytes.now c.loop-end.end) in
-    (line_on c.args.bytes.now c.loop-end.end c.loop-end-test.true (sym is ∙ c.if-line_end-eq0.true) ∙ c.loop-end.invariant.0, omega arith)
+    (line_on c.args.bytes.now c.loop-end.end c.loop-end-test.true (sym is ∙ c.if-line_end-eq0.true) ∙ c.loop-end.invariant.0, (omega arith, record { up = omega arith; least = omega arith }))
 
 pub returns-else-line_end-eq0-clause-value : goal.returns-else-line_end-eq0-clause-value
 returns-else-line_end-eq0-clause-value c =

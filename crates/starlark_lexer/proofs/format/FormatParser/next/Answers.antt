@@ -1,6 +1,7 @@
 use Rattle.std.proofs.Common.{refl, ◌≡◌, ◌+◌, ◌-◌, length, drop, take, arith, sym, ◌∙◌, ap, subst, IsUtf8}
 use Rattle.starlark_lexer.specs.declared.format.Turn.TheVariants.{Over, Text, Escape, Capture, Fault}
-use Rattle.starlark_lexer.specs.Format.{turn, parsed, with_part, text, capture, escape}
+use Rattle.starlark_lexer.specs.Format.{with_part, text, capture, escape}
+use Rattle.starlark_lexer.specs.FormatScan.{turn, parsed}
 use Rattle.starlark_lexer.proofs.Formats.{cuts_of, boundary_text, boundary_after, boundary_name, step, over, fault, first}
 use Rattle.starlark_lexer.proofs.format.FormatParser.next.Goals as goal
 

@@ -19,10 +19,12 @@ invariant_of-result c =
         mode = tt;
         around = subst (AreModes c.args.input.now 0) (sym c.new-2.ensures.items) tt;
         dedents = zero;
+        behind = omega arith;
         starts = zero;
       };
       source = sym c.requires;
       fits = rw (sym c.requires) c.source.ensures.fits;
+      counted = omega arith;
     }
 
 pub returns-clause-left : goal.returns-clause-left

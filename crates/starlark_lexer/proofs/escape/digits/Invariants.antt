@@ -2,7 +2,8 @@ use Rattle.std.proofs.Common.{◌≡◌, ◌+◌, ◌-◌, ◌≤◌, length, dr
 use Rattle.std.specs.Char.{is_digit}
 use Rattle.std.specs.List.{prefix_len}
 use Rattle.std.specs.Str.Parse.{digits_value, AllDigits}
-use Rattle.starlark_lexer.proofs.literal.digits.Given as goal
+use Rattle.starlark_lexer.specs.Reads.{Grows}
+use Rattle.starlark_lexer.proofs.escape.digits.Given as goal
 
 abbrev pub invariant-loop-end : goal.invariant-loop-end
 invariant-loop-end l = record {
@@ -11,6 +12,7 @@ invariant-loop-end l = record {
   digits : AllDigits l.base (take l.end l.bytes);
   within : l.end ≤ length l.bytes;
   paid : l.reads ≤ l.initial.reads + l.end;
+  looked : Grows l.initial.reads l.end l.reads;
 }
 
 abbrev pub decreases-loop-end : goal.decreases-loop-end
