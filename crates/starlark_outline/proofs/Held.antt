@@ -1,6 +1,6 @@
 -- A part, and lists of parts.
 use Rattle.std.proofs.Common.{◌≡◌, ◌<◌, ◌≤◌, Fits, w64, ℕ, ◌+◌, zero, suc, List, [], ◌∷◌, ◌++◌, length, map, take, drop, get_or, add-zero, append_assoc, cond, refl, ap, sym, ◌∙◌, arith, subst}
-use Rattle.std.specs.Prelude.{Result, Err}
+use Rattle.std.specs.Prelude.{Result, Err, codes}
 use Rattle.std.proofs.Common.{Global, Vec}
 use Rattle.std.proofs.lemmas.List.{take-append-drop, take_more, append-nil}
 use Rattle.std.proofs.lemmas.List.Sums.{sum_by-append, sum_by-cons}
@@ -31,10 +31,11 @@ above_feeds : (text : List ℕ) (ss : List RawStmt) → AllAbove (feeds text) (m
 above_feeds text [] = tt
 above_feeds text (s ∷ ss) = (feeds-take text (stands s).begin, above_feeds text ss)
 
-pub is_part : (dialect : Dialect) (p : Part) (text : List ℕ) (ss : List RawStmt) → text_of p ≡ text → IsClosed text → Language text ss → p.items.items ≡ map (item_of text) ss → p.feeds ≡ feeds text → IsPart dialect p
-is_part dialect p text ss e closed language items n =
+pub is_part : (dialect : Dialect) (p : Part) (text : List ℕ) (ss : List RawStmt) → p.codemap.name ≡ codes "part" → text_of p ≡ text → IsClosed text → Language text ss → p.items.items ≡ map (item_of text) ss → p.feeds ≡ feeds text → IsPart dialect p
+is_part dialect p text ss name e closed language items n =
     let outline : IsOutline dialect text p.items.items = record { raw = ss; language = language; all = items } in
     record {
+      name = name;
       closed = subst IsClosed (sym e) closed;
       outline = subst (λ t. IsOutline dialect t p.items.items) (sym e) outline;
       feeds = n ∙ ap feeds (sym e);

@@ -1,6 +1,7 @@
 pub mod Known
 pub mod Lines
 pub mod Taking
+pub mod Cutting
 pub mod Joined
 pub mod Edits
 pub mod Runs

@@ -9,7 +9,7 @@ use Rattle.starlark_outline.specs.Script.{Front, Command, nothing, no_command, a
 use Rattle.starlark_outline.specs.Script.Replies.{ends, breaks, answers}
 use Rattle.starlark_outline.specs.Script.SoFar.{begins, goes_on}
 use Rattle.starlark_outline.specs.Script.Does.{wanting, outlined}
-use Rattle.starlark_outline.specs.Reading.{IsAsked, IsRequest}
+use Rattle.starlark_outline.specs.Reading.{IsAsked, IsRequest, StopsCut}
 use Rattle.starlark_outline.specs.Coming.{Held, coming}
 use Rattle.starlark_outline.specs.Kept.{joined}
 use Rattle.starlark_outline.specs.Parts.{HasOutline}
@@ -170,14 +170,16 @@ going_unread limit dialect (Some script) (Some before) parts (Some xs) None h go
 going_unread limit dialect (Some script) (Some before) parts (Some xs) (Some ts) h go =
     let m = answered limit dialect parts xs h in record { front = go.0; rest = m.0; end = m.1; given = then_replies limit dialect [] script parts go.0 xs m.0 m.1 go.2 m.2; written = ap Some go.1 }
 
--- What was written by then are whole replies.
-pub going_so_far : (limit : ℕ) (dialect : Dialect) (s b : Option (List ℕ)) (parts : List (List ℕ)) (c t : Option (List ℕ)) → Going limit dialect s b parts c t → WroteSoFar limit dialect s b t
-going_so_far limit dialect None b parts c t go = tt
-going_so_far limit dialect (Some script) None parts c t go = tt
-going_so_far limit dialect (Some script) (Some before) parts None t go = absurd go
-going_so_far limit dialect (Some script) (Some before) parts (Some xs) None go = absurd go
-going_so_far limit dialect (Some script) (Some before) parts (Some xs) (Some ts) go =
-    record { replies = go.0; parts = parts; rest = xs; given = go.2; written = ap Some go.1 }
+-- What was written by then are whole replies to all that is whole.
+pub going_so_far : (limit : ℕ) (dialect : Dialect) (s b : Option (List ℕ)) (parts : List (List ℕ)) (c t u : Option (List ℕ)) → Going limit dialect s b parts c t → StopsCut c u
+    → WroteSoFar limit dialect s b t u
+going_so_far limit dialect None b parts c t u go r = tt
+going_so_far limit dialect (Some script) None parts c t u go r = tt
+going_so_far limit dialect (Some script) (Some before) parts None t u go r = absurd go
+going_so_far limit dialect (Some script) (Some before) parts (Some xs) None u go r = absurd go
+going_so_far limit dialect (Some script) (Some before) parts (Some xs) (Some ts) None go r = absurd r
+going_so_far limit dialect (Some script) (Some before) parts (Some xs) (Some ts) (Some us) go r =
+    record { replies = go.0; parts = parts; rest = xs; given = go.2; written = ap Some go.1; waiting = r.0; cut = r.2; unread = us; behind = r.1; known = refl }
 
 -- Nothing was written yet.
 pub going_first : (limit : ℕ) (dialect : Dialect) (s b : Option (List ℕ)) (parts : List (List ℕ)) (held : Held) → parts ≡ [] → held.bytes ≡ [] → Going limit dialect s b parts (coming held s) b

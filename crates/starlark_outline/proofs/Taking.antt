@@ -3,14 +3,18 @@ use Rattle.std.proofs.Common.{◌≡◌, ℕ, ◌+◌, ◌-◌, ◌<◌, ◌≤�
 use Rattle.std.specs.Io.KnownBytes.{Consumes, IsAtEnd}
 use Rattle.std.proofs.lemmas.List.{append-nil}
 use Rattle.std.proofs.lemmas.Bool.Decides.{nat_tests}
-use Rattle.starlark_outline.specs.Script.{front, first_line, after_line, behind, nothing, no_command}
-use Rattle.starlark_outline.specs.Reading.{IsLine, IsTaken, IsSkipped}
+use Rattle.std.proofs.lemmas.Bool.{cases_Bool}
+use Rattle.std.proofs.Common.{inl, inr}
+use Rattle.starlark_outline.specs.Script.{front, first_line, after_line, behind, command_of, nothing, no_command}
+use Rattle.starlark_outline.specs.Script.IsCut.{in_line, in_text}
+use Rattle.starlark_outline.specs.Reading.{IsLine, StopsInLine, IsTaken, StopsBefore, IsSkipped, StopsCut}
+use Rattle.starlark_outline.specs.declared.command.Head.TheVariants.{Insert}
 use Rattle.starlark_outline.specs.declared.reading.Line.TheVariants as lines
 use Rattle.starlark_outline.specs.declared.reading.Taken.TheVariants as texts
 use Rattle.starlark_outline.proofs.Lines.{No, no_more, line_found, line_none}
 
 -- the first line behind bytes without a line feed
-abbrev onto : List ℕ → Option (List ℕ × List ℕ) → Option (List ℕ × List ℕ)
+abbrev pub onto : List ℕ → Option (List ℕ × List ℕ) → Option (List ℕ × List ℕ)
 onto w None = None
 onto w (Some p) = Some (w ++ p.0, p.1)
 
@@ -25,21 +29,21 @@ onto_none (Some p) = refl
 not_equal : (a b : ℕ) → (a ≡ b → ⊥) → nat_eq a b ≡ false
 not_equal a b h = grind (arith, nat_tests)
 
-longer : (n : ℕ) → 64 < n → nat_lt 64 n ≡ true
+pub longer : (n : ℕ) → 64 < n → nat_lt 64 n ≡ true
 longer n h = grind (arith, nat_tests)
 
-short : (n : ℕ) → n ≤ 64 → nat_lt 64 n ≡ false
+pub short : (n : ℕ) → n ≤ 64 → nat_lt 64 n ≡ false
 short n h = grind (arith, nat_tests)
 
-later_line : (w rest : List ℕ) → No 10 w → first_line (w ++ rest) ≡ onto w (first_line rest)
+pub later_line : (w rest : List ℕ) → No 10 w → first_line (w ++ rest) ≡ onto w (first_line rest)
 later_line [] rest h = onto_none (first_line rest)
 later_line (b ∷ w) rest h = rw (not_equal b 10 h.0) (ap (behind b) (later_line w rest h.1) ∙ behind_onto b w (first_line rest))
 
-too_long : (w : List ℕ) (o : Option (List ℕ × List ℕ)) → 64 < length w → after_line (onto w o) ≡ no_command
+pub too_long : (w : List ℕ) (o : Option (List ℕ × List ℕ)) → 64 < length w → after_line (onto w o) ≡ no_command
 too_long w None l = refl
 too_long w (Some p) l = rw (longer (length (w ++ p.0)) (omega (arith, length-append w p.0))) refl
 
-front_is : (xs : List ℕ) → 0 < length xs → front xs ≡ after_line (first_line xs)
+pub front_is : (xs : List ℕ) → 0 < length xs → front xs ≡ after_line (first_line xs)
 unfolding front
 front_is [] l = absurd (omega arith)
 front_is (x ∷ xs) l = refl
@@ -71,7 +75,7 @@ line_of (Some xs) (Some ms) (Some ns) n b buf l q p h k =
     let w : List ℕ = take n buf in
     let e : xs ≡ w ++ 10 ∷ ns = h ∙ ap (λ z. w ++ z) (k ∙ ap (λ z. z ∷ ns) q) in
     let some : 0 < length (w ++ 10 ∷ ns) = rw (length-append w (10 ∷ ns)) (omega arith) in
-    (ns, rw (e, front_is (w ++ 10 ∷ ns) some, line_found w ns p, short (length w) l) refl, refl)
+    (ns, rw (e, front_is (w ++ 10 ∷ ns) some, line_found w ns p, short (length w) l) refl, refl, rw e (line_found w ns p))
 
 pub line_long : (old mid new : Option (List ℕ)) (w buf : List ℕ) (b : ℕ) → 64 ≤ length w → No 10 w → (b ≡ 10 → ⊥) → Consumes old mid w → Consumes mid new (b ∷ []) → IsLine old new buf lines.Bad
 line_long None mid new w buf b l p q h k = tt
@@ -98,3 +102,74 @@ wanting (Some xs) None last new bs b i n l m h k s = absurd h
 wanting (Some xs) (Some ms) None new bs b i n l m h k s = absurd k
 wanting (Some xs) (Some ms) (Some ls) new bs b i n l m h k s =
     (bs ++ b ∷ s.0, s.1, h ∙ ap (λ z. bs ++ z) (k ∙ ap (λ z. b ∷ z) s.2) ∙ sym (append_assoc bs (b ∷ s.0) s.1), rw (length-append bs (b ∷ s.0)) (omega (arith, s.3)), s.4)
+
+-- The reader fails within a line, within a text, or behind some of it.
+pub stops_in_line : (old mid left : Option (List ℕ)) (w : List ℕ) → No 10 w → length w ≤ 64 → Consumes old mid w → Consumes mid left [] → StopsInLine old left
+stops_in_line None mid left w p l h k = tt
+stops_in_line (Some xs) None left w p l h k = absurd h
+stops_in_line (Some xs) (Some ms) None w p l h k = absurd k
+stops_in_line (Some xs) (Some ms) (Some ys) w p l h k = (w, h ∙ ap (λ z. w ++ z) k, line_none w p, l)
+
+pub stops_before : (old mid left : Option (List ℕ)) (bs : List ℕ) (n : ℕ) → length bs < n → Consumes old mid bs → Consumes mid left [] → StopsBefore n old left
+stops_before None mid left bs n l h k = tt
+stops_before (Some xs) None left bs n l h k = absurd h
+stops_before (Some xs) (Some ms) None bs n l h k = absurd k
+stops_before (Some xs) (Some ms) (Some ys) bs n l h k = (bs, h ∙ ap (λ z. bs ++ z) k, l)
+
+pub stops_later : (old mid last left : Option (List ℕ)) (bs : List ℕ) (b i n : ℕ) → length bs ≡ i → i < n → Consumes old mid bs → Consumes mid last (b ∷ []) → StopsBefore (n - i - 1) last left → StopsBefore n old left
+stops_later None mid last left bs b i n l m h k s = tt
+stops_later (Some xs) None last left bs b i n l m h k s = absurd h
+stops_later (Some xs) (Some ms) None left bs b i n l m h k s = absurd k
+stops_later (Some xs) (Some ms) (Some ls) None bs b i n l m h k s = absurd s
+stops_later (Some xs) (Some ms) (Some ls) (Some ys) bs b i n l m h k s =
+    (bs ++ b ∷ s.0, h ∙ ap (λ z. bs ++ z) (k ∙ ap (λ z. b ∷ z) s.1) ∙ sym (append_assoc bs (b ∷ s.0) ys), rw (length-append bs (b ∷ s.0)) (omega (arith, s.2)))
+
+-- What stands behind a first line.
+abbrev line_or : Option (List ℕ × List ℕ) → List ℕ × List ℕ
+line_or None = ([], [])
+line_or (Some p) = p
+
+line_behind : (b : ℕ) (xs : List ℕ) (o : Option (List ℕ × List ℕ)) (w rest : List ℕ) → (b ≡ 10 → ⊥)
+    → ((v more : List ℕ) → o ≡ Some (v, more) → (xs ≡ v ++ 10 ∷ more) × No 10 v) → behind b o ≡ Some (w, rest) → (b ∷ xs ≡ w ++ 10 ∷ rest) × No 10 w
+line_behind b xs None w rest n more h = absurd (cc)
+line_behind b xs (Some p) w rest n more h =
+    let first : b ∷ p.0 ≡ w = ap (λ o. (line_or o).0) h in
+    let after : p.1 ≡ rest = ap (λ o. (line_or o).1) h in
+    let m = more p.0 p.1 refl in
+    rw (← first, ← after) (ap (λ z. b ∷ z) m.0, (n, m.1))
+
+pub line_before : (xs w rest : List ℕ) → first_line xs ≡ Some (w, rest) → (xs ≡ w ++ 10 ∷ rest) × No 10 w
+line_before [] w rest h = absurd (cc)
+line_before (b ∷ xs) w rest h = elim (cases_Bool (nat_eq b 10)) [
+  | inl e ↦ (
+      let is : b ≡ 10 = grind (arith, nat_tests) in
+      let f : Some ([], xs) ≡ Some (w, rest) = rw e at h in
+      let first : [] ≡ w = ap (λ o. (line_or o).0) f in
+      let after : xs ≡ rest = ap (λ o. (line_or o).1) f in
+      rw (← first, ← after, is) (refl, tt)
+      )
+  | inr e ↦ (
+      let other : (b ≡ 10 → ⊥) = λ is. let t : nat_eq b 10 ≡ true = grind (arith, nat_tests) in cc in
+      line_behind b xs (first_line xs) w rest other (λ v more f. line_before xs v more f) (rw e at h)
+      )
+]
+
+-- No request is whole then.
+pub cut_in_line : (old left : Option (List ℕ)) → StopsInLine old left → StopsCut old left
+cut_in_line None left h = tt
+cut_in_line (Some xs) None h = absurd h
+cut_in_line (Some xs) (Some ys) h = (h.0, h.1, in_line h.0 h.2 h.3)
+
+abbrev bytes_or : Option (List ℕ) → List ℕ
+bytes_or None = []
+bytes_or (Some xs) = xs
+
+pub cut_in_text : (old mid left : Option (List ℕ)) (n k m : ℕ) (buf : List ℕ) → length (take n buf) ≤ 64 → command_of (take n buf) ≡ Some (Insert k m) → IsLine old mid buf (lines.Of n) → StopsBefore m mid left → StopsCut old left
+cut_in_text None mid left n k m buf l c h s = tt
+cut_in_text (Some xs) None left n k m buf l c h s = absurd (let e = h.2 in cc)
+cut_in_text (Some xs) (Some ms) None n k m buf l c h s = absurd s
+cut_in_text (Some xs) (Some ms) (Some ys) n k m buf l c h s =
+    let w : List ℕ = take n buf in
+    let b = line_before xs w h.0 h.3 in
+    let rest : h.0 ≡ s.0 ++ ys = ap (λ o. bytes_or o) (sym h.2) ∙ s.1 in
+    (w ++ 10 ∷ s.0, b.0 ∙ ap (λ z. w ++ 10 ∷ z) rest ∙ sym (append_assoc w (10 ∷ s.0) ys), in_text (w ++ 10 ∷ s.0) w s.0 k m (line_found w s.0 b.1) l c s.2)

@@ -1,6 +1,6 @@
 -- What an answer and a run leave.
 use Rattle.std.specs.Prelude.{◌≡◌, ℕ, List, [], ◌++◌, Option, None, Some, Result, Ok, Err, codes}
-use Rattle.starlark_outline.specs.Script.{Does, Replies, SoFar, inserting, outlining}
+use Rattle.starlark_outline.specs.Script.{Does, Replies, SoFar, IsCut, inserting, outlining}
 use Rattle.starlark_outline.specs.declared.fault.End.{End}
 use Rattle.starlark_outline.specs.declared.fault.End.TheVariants as ends
 use Rattle.starlark_outline.specs.declared.fault.RunFault.{RunFault}
@@ -29,13 +29,18 @@ pub record IsAnsweredInPart (limit : ℕ) (dialect : Dialect) (script before : L
   pub given : Replies limit dialect [] script (front ++ rest) end
   pub written : after ≡ Some (before ++ front)
 
--- Whole replies to commands at the front of the script stand behind what was written before.
-pub record IsAnsweredSoFar (limit : ℕ) (dialect : Dialect) (script before : List ℕ) (after : Option (List ℕ)) : Type 0 where
+-- Whole replies to commands at the front of the script stand behind what was written before; of the rest some bytes were read, and no request is whole in them.
+pub record IsAnsweredSoFar (limit : ℕ) (dialect : Dialect) (script before : List ℕ) (after left : Option (List ℕ)) : Type 0 where
   pub replies : List ℕ
   pub parts : List (List ℕ)
   pub rest : List ℕ
   pub given : SoFar limit dialect [] script replies parts rest
   pub written : after ≡ Some (before ++ replies)
+  pub waiting : List ℕ
+  pub cut : IsCut waiting
+  pub unread : List ℕ
+  pub behind : rest ≡ waiting ++ unread
+  pub known : left ≡ Some unread
 
 -- Where the script and what was written before are known, replies to the script were written, and it ended so.
 abbrev pub Wrote : ℕ → Dialect → Option (List ℕ) → Option (List ℕ) → Option (List ℕ) → End → Type 0
@@ -49,11 +54,11 @@ WroteFront limit dialect None before after = Unit {0}
 WroteFront limit dialect (Some script) None after = Unit {0}
 WroteFront limit dialect (Some script) (Some before) after = IsAnsweredInPart limit dialect script before after
 
--- Where both are known, whole replies to commands at the front of the script were written, and nothing else.
-abbrev pub WroteSoFar : ℕ → Dialect → Option (List ℕ) → Option (List ℕ) → Option (List ℕ) → Type 0
-WroteSoFar limit dialect None before after = Unit {0}
-WroteSoFar limit dialect (Some script) None after = Unit {0}
-WroteSoFar limit dialect (Some script) (Some before) after = IsAnsweredSoFar limit dialect script before after
+-- Where both are known, whole replies to the commands that are whole in what was read were written, and nothing else.
+abbrev pub WroteSoFar : ℕ → Dialect → Option (List ℕ) → Option (List ℕ) → Option (List ℕ) → Option (List ℕ) → Type 0
+WroteSoFar limit dialect None before after left = Unit {0}
+WroteSoFar limit dialect (Some script) None after left = Unit {0}
+WroteSoFar limit dialect (Some script) (Some before) after left = IsAnsweredSoFar limit dialect script before after left
 
 -- The status of the program: 0 where the script ended whole, 2 where it ended at what is no command, 1 at a fault.
 abbrev pub status_of : Result End RunFault → ℕ

@@ -1,5 +1,5 @@
 -- What the list of parts holds.
-use Rattle.std.specs.Prelude.{◌≡◌, ◌≤◌, ℕ, ◌+◌, List, [], ◌∷◌, ◌++◌, map, sum_by}
+use Rattle.std.specs.Prelude.{◌≡◌, ◌≤◌, ℕ, ◌+◌, List, [], ◌∷◌, ◌++◌, codes, map, sum_by}
 use Rattle.starlark_place.specs.Place.{Extent, extent}
 use Rattle.starlark_place.specs.Resolved.{resolved_span}
 use Rattle.starlark_lexer.specs.Joining.{IsClosed}
@@ -25,8 +25,9 @@ abbrev pub AllAbove : ℕ → List OutlineItem → Type 0
 AllAbove n [] = Unit {0}
 AllAbove n (x ∷ xs) = (x.begin.line ≤ n) × AllAbove n xs
 
--- a closed text with its own outline and its number of line feeds
+-- a closed text, under the name of all parts, with its own outline and its number of line feeds
 pub record IsPart (dialect : Dialect) (p : Part) : Type 0 where
+  pub name : p.codemap.name ≡ codes "part"
   pub closed : IsClosed (text_of p)
   pub outline : IsOutline dialect (text_of p) p.items.items
   pub feeds : p.feeds ≡ feeds (text_of p)

@@ -1,6 +1,7 @@
 -- What the calls that read hand out, where the bytes to come are known.
 use Rattle.std.specs.Prelude.{◌≡◌, ◌≤◌, ◌<◌, ℕ, List, ◌++◌, Option, None, Some, Bool, true, false, length, take}
-use Rattle.starlark_outline.specs.Script.{front, Command, nothing, no_command, asking, inserting, outlining, with_text, command_of}
+use Rattle.starlark_outline.specs.Device.{CountsOn}
+use Rattle.starlark_outline.specs.Script.{front, first_line, Command, IsCut, nothing, no_command, asking, inserting, outlining, with_text, command_of}
 use Rattle.starlark_outline.specs.declared.reading.Line.{Line}
 use Rattle.starlark_outline.specs.declared.reading.Line.TheVariants as lines
 use Rattle.starlark_outline.specs.declared.reading.Taken.{Taken}
@@ -15,7 +16,7 @@ abbrev pub IsLine : Option (List ℕ) → Option (List ℕ) → List ℕ → Lin
 IsLine None new buf l = Unit {0}
 IsLine (Some xs) new buf lines.End = front xs ≡ nothing
 IsLine (Some xs) new buf lines.Bad = front xs ≡ no_command
-IsLine (Some xs) new buf (lines.Of n) = (rest : List ℕ) × (front xs ≡ with_text (command_of (take n buf)) rest) × (new ≡ Some rest)
+IsLine (Some xs) new buf (lines.Of n) = (rest : List ℕ) × (front xs ≡ with_text (command_of (take n buf)) rest) × (new ≡ Some rest) × (first_line xs ≡ Some (take n buf, rest))
 
 -- it fits the buffer
 abbrev pub LineFits : Line → Type 0
@@ -29,6 +30,18 @@ line_goes lines.End = false
 line_goes lines.Bad = false
 line_goes (lines.Of n) = true
 
+-- no read gave 0 bytes before a line was found, and at the end one did
+abbrev pub LineEnds : ℕ → ℕ → Line → Type 0
+LineEnds old new lines.End = CountsOn 1 old new
+LineEnds old new lines.Bad = Unit {0}
+LineEnds old new (lines.Of n) = new ≡ old
+
+-- the reader failed behind a front of a line
+abbrev pub StopsInLine : Option (List ℕ) → Option (List ℕ) → Type 0
+StopsInLine None left = Unit {0}
+StopsInLine (Some xs) None = ⊥
+StopsInLine (Some xs) (Some ys) = (bs : List ℕ) × (xs ≡ bs ++ ys) × (first_line bs ≡ None) × (length bs ≤ 64)
+
 -- n bytes were taken off, and kept or dropped, or there are fewer
 abbrev pub IsTaken : Option (List ℕ) → Option (List ℕ) → ℕ → Taken → Type 0
 IsTaken None new n t = Unit {0}
@@ -41,6 +54,18 @@ abbrev pub IsSkipped : Option (List ℕ) → Option (List ℕ) → ℕ → Bool 
 IsSkipped None new n b = Unit {0}
 IsSkipped (Some xs) new n true = (bs : List ℕ) × (rest : List ℕ) × (xs ≡ bs ++ rest) × (length bs ≡ n) × (new ≡ Some rest)
 IsSkipped (Some xs) new n false = length xs < n
+
+-- no read gave 0 bytes before the last of the bytes
+abbrev pub TextEnds : ℕ → ℕ → Taken → Type 0
+TextEnds old new (texts.Text v) = new ≡ old
+TextEnds old new texts.Wanting = new ≡ old
+TextEnds old new texts.Short = Unit {0}
+
+-- the reader failed behind fewer than n bytes
+abbrev pub StopsBefore : ℕ → Option (List ℕ) → Option (List ℕ) → Type 0
+StopsBefore n None left = Unit {0}
+StopsBefore n (Some xs) None = ⊥
+StopsBefore n (Some xs) (Some ys) = (bs : List ℕ) × (xs ≡ bs ++ ys) × (length bs < n)
 
 -- a command stands at the front, and these bytes behind it
 abbrev pub Goes : List ℕ → Option (List ℕ) → Command → Type 0
@@ -58,6 +83,18 @@ IsRequest None new q = Unit {0}
 IsRequest (Some xs) new requests.Whole = front xs ≡ nothing
 IsRequest (Some xs) new requests.Bad = front xs ≡ no_command
 IsRequest (Some xs) new (requests.Does a) = IsAsked xs new a
+
+-- no read gave 0 bytes before a command was whole, and at the end one did
+abbrev pub RequestEnds : ℕ → ℕ → Request → Type 0
+RequestEnds old new requests.Whole = CountsOn 1 old new
+RequestEnds old new requests.Bad = Unit {0}
+RequestEnds old new (requests.Does a) = new ≡ old
+
+-- the reader failed behind bytes with which no request is whole
+abbrev pub StopsCut : Option (List ℕ) → Option (List ℕ) → Type 0
+StopsCut None left = Unit {0}
+StopsCut (Some xs) None = ⊥
+StopsCut (Some xs) (Some ys) = (bs : List ℕ) × (xs ≡ bs ++ ys) × IsCut bs
 
 -- whether the script goes on
 abbrev pub goes_on : Request → Bool

@@ -1,5 +1,5 @@
 -- Scripts: which replies may be given to which bytes.
-use Rattle.std.specs.Prelude.{◌≡◌, ℕ, ◌+◌, ◌-◌, ◌*◌, List, [], ◌∷◌, ◌++◌, Bool, true, false, Option, None, Some, length, take, drop, codes, nat_eq, nat_lt, ◌&&◌, if◌then◌else◌}
+use Rattle.std.specs.Prelude.{◌≡◌, ◌⊎◌, ◌<◌, ◌≤◌, ℕ, ◌+◌, ◌-◌, ◌*◌, List, [], ◌∷◌, ◌++◌, Bool, true, false, Option, None, Some, length, take, drop, codes, nat_eq, nat_lt, ◌&&◌, if◌then◌else◌}
 use Rattle.std.specs.List.{list_all, insert}
 use Rattle.starlark_outline.specs.Kept.{joined}
 use Rattle.starlark_outline.specs.Parts.{Takes, Refuses, IsOutline}
@@ -108,6 +108,15 @@ after_line (Some p) = if nat_lt 64 (length p.0) then no_command else with_text (
 unfoldable pub front : List ℕ → Front
 front [] = nothing
 front (b ∷ bs) = after_line (first_line (b ∷ bs))
+
+-- Bytes with which no request is whole yet: a line of at most 64 bytes whose line feed has not come, or the line of an insert and fewer bytes behind it than it names.
+pub data IsCut : List ℕ → Type 0 where
+  in_line : (bs : List ℕ) → first_line bs ≡ None → length bs ≤ 64 → IsCut bs
+  in_text : (bs line rest : List ℕ) (k n : ℕ) → first_line bs ≡ Some (line, rest) → length line ≤ 64 → command_of line ≡ Some (Insert k n) → length rest < n → IsCut bs
+
+-- What stands at the front is whole: whatever comes behind, it is no command, or that command.
+abbrev pub IsWhole : List ℕ → Type 0
+IsWhole bs = ((more : List ℕ) → front (bs ++ more) ≡ no_command) ⊎ ((c : Command) × (rest : List ℕ) × ((more : List ℕ) → front (bs ++ more) ≡ asking c (rest ++ more)))
 
 -- What a command may answer, and which parts it leaves then.
 pub data Does (limit : ℕ) (dialect : Dialect) : List (List ℕ) → Command → List ℕ → List (List ℕ) → Type 0 where

@@ -60,6 +60,10 @@ impl Ahead {
         ensures waits { IfOk result (λ more. more ≡ true → 0 < length self.new.bytes) }
         ensures end { IfOk result (λ more. more ≡ false → IsAtEnd (coming self.new (R.remaining reader.new))) }
         ensures err { IfErr result (λ e. (e ≡ RunFault.Read) × ((R.has_failed reader.new ≡ true) ⊎ (self.new.reads ≡ 0))) }
+        ensures lost { OnErr result (Consumes (coming self.old (R.remaining reader.old)) (R.remaining reader.new) []) }
+        ensures goes { IfOk result (λ more. more ≡ true → R.ends reader.new ≡ R.ends reader.old) }
+        ensures stops { IfOk result (λ more. more ≡ false → CountsOn 1 (R.ends reader.old) (R.ends reader.new)) }
+        ensures still { OnErr result (R.ends reader.new ≡ R.ends reader.old) }
         ensures weight { weight self.new ≤ weight self.old }
         ensures count { CountsOn (self.old.reads - self.new.reads) (R.reads reader.old) (R.reads reader.new) }
         ensures fewer { self.new.reads ≤ self.old.reads }
@@ -91,7 +95,10 @@ impl Ahead {
             (λ x. Consumes (coming self.old (R.remaining reader.old)) (coming self.new (R.remaining reader.new)) (x ∷ [])
             × (weight self.new < weight self.old))) }
         ensures err { IfErr result (λ e. (e ≡ RunFault.Read) × ((R.has_failed reader.new ≡ true) ⊎ (self.new.reads ≡ 0))) }
-        ensures lost { OnErr result (Consumes (coming self.old (R.remaining reader.old)) (coming self.new (R.remaining reader.new)) []) }
+        ensures ends { IfOk result (λ b. MatchOption b (CountsOn 1 (R.ends reader.old) (R.ends reader.new)) (λ x. R.ends reader.new ≡ R.ends reader.old)) }
+        // what the reader gave was all taken before it failed
+        ensures lost { OnErr result (Consumes (coming self.old (R.remaining reader.old)) (R.remaining reader.new) []) }
+        ensures still { OnErr result (R.ends reader.new ≡ R.ends reader.old) }
         ensures weight { weight self.new ≤ weight self.old }
         ensures count { CountsOn (self.old.reads - self.new.reads) (R.reads reader.old) (R.reads reader.new) }
         ensures fewer { self.new.reads ≤ self.old.reads }

@@ -1,12 +1,13 @@
 //! Readers and writers that tell whether a call of theirs failed.
 
-ghost use Rattle.std.specs.Prelude.{◌≡◌, ℕ, Bool, true, false};
+ghost use Rattle.std.specs.Prelude.{◌≡◌, ◌≢◌, ℕ, Bool, true, false, length};
 ghost use Rattle.std.specs.Io.{ReadsAtMost, WritesAtMost};
 ghost use Rattle.std.specs.Io.KnownBytes.{ReadConsumes, WriteAppends, Keeps};
 ghost use Rattle.starlark_outline.specs.Device.{FailsWith, CountsOn, StallsWith};
 
 use std::io;
 use std::io::{Read, Write};
+use std::marker::Model;
 
 /// A reader that tells whether one of its calls answered an `Err`. `Watched` makes one of any reader.
 pub trait Source: Read {
@@ -14,6 +15,9 @@ pub trait Source: Read {
 
     // how many calls of `pull` were made
     ghost reads: { Self → ℕ };
+
+    // how many of them gave no byte where there was room
+    ghost ends: { Self → ℕ };
 
     /// Whether a call has answered an `Err`.
     fn failed(&self) -> bool
@@ -24,14 +28,18 @@ pub trait Source: Read {
         ensures bound { ReadsAtMost result buf.new }
         ensures bytes { ReadConsumes (Self.remaining self.old) (Self.remaining self.new) result buf.new }
         ensures fails { FailsWith (has_failed self.old) (has_failed self.new) result }
-        ensures count { CountsOn 1 (reads self.old) (reads self.new) };
+        ensures reads { CountsOn 1 (reads self.old) (reads self.new) }
+        ensures ends { StallsWith (ends self.old) (ends self.new) result (length buf.new) };
 }
 
 /// A writer that tells whether one of its calls answered an `Err`. `Watched` makes one of any writer.
 pub trait Sink: Write {
     ghost has_failed: { Self → Bool };
 
-    // how many calls of `put` took no byte of some
+    // how many calls of `put` were made
+    ghost writes: { Self → ℕ };
+
+    // how many of them took no byte of some
     ghost stalls: { Self → ℕ };
 
     /// Whether a call has answered an `Err`.
@@ -43,17 +51,28 @@ pub trait Sink: Write {
         ensures bound { WritesAtMost result buf.now }
         ensures bytes { WriteAppends (Self.contents self.old) (Self.contents self.new) result buf.now }
         ensures fails { FailsWith (has_failed self.old) (has_failed self.new) result }
-        ensures stalls { StallsWith (stalls self.old) (stalls self.new) result buf.now };
+        ensures writes { CountsOn 1 (writes self.old) (writes self.new) }
+        ensures stalls { StallsWith (stalls self.old) (stalls self.new) result (length buf.now) };
 }
 
-/// A reader or a writer that is watched: each call is passed on, and the first that answers an `Err` is kept in mind for
-/// good. Nothing else sets it.
+/// A reader or a writer that is watched: each call is passed on once, and answers what it answers. The first `Err` is
+/// kept in mind for good, and nothing else sets it.
 #[derive(Drop)]
 pub struct Watched<T> {
     inner: T,
     failed: bool,
+    // calls of `read` or `write`
+    calls: u64,
+    // those of them that moved no byte of some
     stalls: u64,
-    reads: u64,
+}
+
+impl<T> Model for Watched<T> {
+    ghost use Rattle.starlark_outline.specs.Device.{Seen};
+
+    ghost Value = { Seen T };
+
+    ghost view = { λ w. record { inner = w.inner; failed = w.failed; calls = w.calls; stalls = w.stalls } };
 }
 
 impl<T> Watched<T> {
@@ -61,14 +80,14 @@ impl<T> Watched<T> {
     pub fn new(inner: T) -> Watched<T>
         ensures inner { result.inner ≡ inner }
         ensures failed { result.failed ≡ false }
+        ensures calls { result.calls ≡ 0 }
         ensures stalls { result.stalls ≡ 0 }
-        ensures reads { result.reads ≡ 0 }
     {
         Watched {
             inner,
             failed: false,
+            calls: 0,
             stalls: 0,
-            reads: 0,
         }
     }
 
@@ -79,22 +98,28 @@ impl<T> Watched<T> {
         let Watched {
             inner,
             failed: _,
+            calls: _,
             stalls: _,
-            reads: _,
         } = self;
         inner
     }
 
-    // keeps in mind whether a call failed, and hands on its answer
-    fn noted<A>(&mut self, answer: io::Result<A>) -> io::Result<A>
+    // keeps in mind what a call answered that moves bytes, and hands its answer on
+    fn noted(&mut self, room: usize, answer: io::Result<usize>) -> io::Result<usize>
         ensures answer { result ≡ answer }
-        ensures fails { FailsWith self.old.failed self.new.failed answer }
         ensures inner { self.new.inner ≡ self.old.inner }
-        ensures stalls { self.new.stalls ≡ self.old.stalls }
-        ensures reads { self.new.reads ≡ self.old.reads }
+        ensures fails { FailsWith self.old.failed self.new.failed answer }
+        ensures calls { CountsOn 1 self.old.calls self.new.calls }
+        ensures stalls { StallsWith self.old.stalls self.new.stalls answer room }
     {
-        if answer.is_err() {
-            self.failed = true;
+        self.calls = self.calls.saturating_add(1);
+        match &answer {
+            Ok(n) => {
+                if *n == 0 && room > 0 {
+                    self.stalls = self.stalls.saturating_add(1);
+                }
+            }
+            Err(_) => self.failed = true,
         }
         answer
     }
@@ -107,6 +132,8 @@ impl<R: Read> Read for Watched<R> {
         ensures bound { ReadsAtMost result buf.new }
         ensures bytes { ReadConsumes (R.remaining self.old.inner) (R.remaining self.new.inner) result buf.new }
         ensures fails { FailsWith self.old.failed self.new.failed result }
+        ensures calls { CountsOn 1 self.old.calls self.new.calls }
+        ensures stalls { StallsWith self.old.stalls self.new.stalls result (length buf.new) }
     {
         self.pull(buf)
     }
@@ -115,16 +142,17 @@ impl<R: Read> Read for Watched<R> {
 impl<R: Read> Source for Watched<R> {
     ghost has_failed = { λ w. w.failed };
 
-    ghost reads = { λ w. w.reads };
+    ghost reads = { λ w. w.calls };
+
+    ghost ends = { λ w. w.stalls };
 
     fn failed(&self) -> bool {
         self.failed
     }
 
     fn pull(&mut self, buf: &mut [u8]) -> io::Result<usize> {
-        self.reads = self.reads.saturating_add(1);
         let answer = self.inner.read(buf);
-        self.noted(answer)
+        self.noted(buf.len(), answer)
     }
 }
 
@@ -135,7 +163,8 @@ impl<W: Write> Write for Watched<W> {
         ensures bound { WritesAtMost result buf.now }
         ensures bytes { WriteAppends (W.contents self.old.inner) (W.contents self.new.inner) result buf.now }
         ensures fails { FailsWith self.old.failed self.new.failed result }
-        ensures stalls { StallsWith self.old.stalls self.new.stalls result buf.now }
+        ensures calls { CountsOn 1 self.old.calls self.new.calls }
+        ensures stalls { StallsWith self.old.stalls self.new.stalls result (length buf.now) }
     {
         self.put(buf)
     }
@@ -143,14 +172,21 @@ impl<W: Write> Write for Watched<W> {
     fn flush(&mut self) -> io::Result<()>
         ensures bytes { Keeps (W.contents self.old.inner) (W.contents self.new.inner) }
         ensures fails { FailsWith self.old.failed self.new.failed result }
+        ensures calls { self.new.calls ≡ self.old.calls }
+        ensures stalls { self.new.stalls ≡ self.old.stalls }
     {
         let answer = self.inner.flush();
-        self.noted(answer)
+        if answer.is_err() {
+            self.failed = true;
+        }
+        answer
     }
 }
 
 impl<W: Write> Sink for Watched<W> {
     ghost has_failed = { λ w. w.failed };
+
+    ghost writes = { λ w. w.calls };
 
     ghost stalls = { λ w. w.stalls };
 
@@ -160,9 +196,6 @@ impl<W: Write> Sink for Watched<W> {
 
     fn put(&mut self, buf: &[u8]) -> io::Result<usize> {
         let answer = self.inner.write(buf);
-        if matches!(&answer, Ok(0)) && !buf.is_empty() {
-            self.stalls = self.stalls.saturating_add(1);
-        }
-        self.noted(answer)
+        self.noted(buf.len(), answer)
     }
 }

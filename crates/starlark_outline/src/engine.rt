@@ -2,7 +2,7 @@
 
 ghost use Rattle.std.specs.Prelude.{◌≡◌, ◌≤◌, ◌<◌, ◌^◌, ◌⊎◌, ℕ, ◌+◌, ◌-◌, List, [], ◌∷◌, ◌++◌, Bool, true, false, map, length, IfOk, IfErr, OnOk, OnErr, decimal, Option, codes, IsErrOf};
 ghost use Rattle.std.specs.Io.KnownBytes.{Appends};
-ghost use Rattle.starlark_outline.specs.Device.{AppendsFront, CountsOn};
+ghost use Rattle.starlark_outline.specs.Device.{AppendsFront, Breaks, CountsOn};
 ghost use Rattle.starlark_outline.specs.Kept.{joined};
 ghost use Rattle.starlark_outline.specs.Parts.{HasOutline};
 ghost use Rattle.starlark_outline.specs.Printed.{edit_line, outline_lines};
@@ -25,7 +25,7 @@ fn write_outline<W: Sink>(writer: &mut W, items: &[OutlineItem]) -> Result<(), R
     ensures ok { OnOk result (Appends (W.contents writer.old) (W.contents writer.new) (outline_lines items.now)) }
     ensures sound { OnOk result ((W.has_failed writer.new ≡ false) × (W.stalls writer.new ≡ W.stalls writer.old)) }
     ensures front { OnErr result (AppendsFront (W.contents writer.old) (W.contents writer.new) (outline_lines items.now)) }
-    ensures err { IfErr result (λ e. (e ≡ RunFault.Write) × ((W.has_failed writer.new ≡ true) ⊎ CountsOn 1 (W.stalls writer.old) (W.stalls writer.new))) }
+    ensures err { IfErr result (λ e. (e ≡ RunFault.Write) × Breaks (W.has_failed writer.new) (W.stalls writer.old) (W.stalls writer.new)) }
 {
     write_all(writer, Reply::count(items.len()).as_slice())?;
     for item in items {
@@ -40,7 +40,7 @@ fn write_done<W: Sink>(writer: &mut W, done: Result<(), PartFault>) -> Result<()
     ensures ok { OnOk result (Appends (W.contents writer.old) (W.contents writer.new) (edit_line done)) }
     ensures sound { OnOk result ((W.has_failed writer.new ≡ false) × (W.stalls writer.new ≡ W.stalls writer.old)) }
     ensures front { OnErr result (AppendsFront (W.contents writer.old) (W.contents writer.new) (edit_line done)) }
-    ensures err { IfErr result (λ e. (e ≡ RunFault.Write) × ((W.has_failed writer.new ≡ true) ⊎ CountsOn 1 (W.stalls writer.old) (W.stalls writer.new))) }
+    ensures err { IfErr result (λ e. (e ≡ RunFault.Write) × Breaks (W.has_failed writer.new) (W.stalls writer.old) (W.stalls writer.new)) }
 {
     match done {
         Ok(()) => write_all(writer, b"ok\n"),
@@ -57,7 +57,7 @@ fn answer<W: Sink>(writer: &mut W, parts: &mut Parts, asked: Asked) -> Result<()
     ensures sound { OnOk result ((W.has_failed writer.new ≡ false) × (W.stalls writer.new ≡ W.stalls writer.old)) }
     ensures front { OnErr result ((reply : List ℕ) × Answers parts.old.limit parts.old.dialect parts.old.texts asked reply parts.new.texts
         × AppendsFront (W.contents writer.old) (W.contents writer.new) reply) }
-    ensures err { IfErr result (λ e. (e ≡ RunFault.Write) × ((W.has_failed writer.new ≡ true) ⊎ CountsOn 1 (W.stalls writer.old) (W.stalls writer.new))) }
+    ensures err { IfErr result (λ e. (e ≡ RunFault.Write) × Breaks (W.has_failed writer.new) (W.stalls writer.old) (W.stalls writer.new)) }
     ensures limit { parts.new.limit ≡ parts.old.limit }
     ensures dialect { parts.new.dialect ≡ parts.old.dialect }
     ensures outlined { HasOutline parts.new.dialect (joined parts.new.texts) }
@@ -72,14 +72,16 @@ fn answer<W: Sink>(writer: &mut W, parts: &mut Parts, asked: Asked) -> Result<()
     }
 }
 
-/// Runs a script: takes one command after the other off the reader, and writes the whole reply to each before it takes
-/// the next. The parts, none at first, may have `limit` bytes together.
+/// Runs a script: takes one command after the other off the reader, and writes the whole reply to each before it reads
+/// on. A read of 0 bytes is the end, and the last. The parts, none at first, may have `limit` bytes together.
 ///
 /// - `Ok(End::Whole)`: the script is at its end after a command.
 /// - `Ok(End::Bad)`: it goes on with a line that is no command, or ends before all bytes of a command. The last reply is
 ///   `bad`.
-/// - `Err(RunFault::Read)`: a read failed, or 2 to the 40th reads were made. Only whole replies were written.
-/// - `Err(RunFault::Write)`: a write failed, or took 0 bytes of some. A front of the replies was written.
+/// - `Err(RunFault::Read)`: a read failed, or 2 to the 40th reads were made. The whole replies to all that is whole in
+///   what was read were written, and nothing else.
+/// - `Err(RunFault::Write)`: a write failed, or took 0 bytes of some, and it was the last. A front of the replies was
+///   written.
 /// - `Err(RunFault::Memory)`: there was no memory for the buffer. Nothing was read or written.
 ///
 /// Want of memory for a text or its reading ends nothing: the reply is `refused memory`.
@@ -97,10 +99,17 @@ pub fn run_with<R: Source, W: Sink>(
     ensures sound { OnOk result ((R.has_failed reader.new ≡ false) × (W.has_failed writer.new ≡ false) × (W.stalls writer.new ≡ W.stalls writer.old)) }
     // after a fault a front of such replies was written
     ensures front { OnErr result (WroteFront limit dialect.now (R.remaining reader.old) (W.contents writer.old) (W.contents writer.new)) }
+    // the script is whole only where a read gave no byte
+    ensures ended { IfOk result (λ e. e ≡ End.Whole → CountsOn 1 (R.ends reader.old) (R.ends reader.new)) }
+    ensures budget { R.reads reader.new ≤ R.reads reader.old + 2 ^ 40 }
     ensures read { IfErr result (λ f. f ≡ RunFault.Read → (R.has_failed reader.new ≡ true) ⊎ CountsOn (2 ^ 40) (R.reads reader.old) (R.reads reader.new)) }
-    // a fault of the reader cuts no reply
-    ensures whole { IfErr result (λ f. f ≡ RunFault.Read → WroteSoFar limit dialect.now (R.remaining reader.old) (W.contents writer.old) (W.contents writer.new)) }
-    ensures write { IfErr result (λ f. f ≡ RunFault.Write → (W.has_failed writer.new ≡ true) ⊎ CountsOn 1 (W.stalls writer.old) (W.stalls writer.new)) }
+    // nothing is read behind the end, and nothing is written behind a fault of the reader: each such call could fail
+    ensures last { IfErr result (λ f. f ≡ RunFault.Read → (R.ends reader.new ≡ R.ends reader.old) × (W.has_failed writer.new ≡ false) × (W.stalls writer.new ≡ W.stalls writer.old)) }
+    // a fault of the reader cuts no reply, and each request that it gave whole was answered
+    ensures whole { IfErr result (λ f. f ≡ RunFault.Read → WroteSoFar limit dialect.now (R.remaining reader.old) (W.contents writer.old) (W.contents writer.new) (R.remaining reader.new)) }
+    ensures write { IfErr result (λ f. f ≡ RunFault.Write → Breaks (W.has_failed writer.new) (W.stalls writer.old) (W.stalls writer.new)) }
+    // nothing is read while a reply is owed: that read could fail before the write does
+    ensures prompt { IfErr result (λ f. f ≡ RunFault.Write → R.has_failed reader.new ≡ false) }
     ensures memory { IfErr result (λ f. f ≡ RunFault.Memory → (reader.new ≡ reader.old) × (writer.new ≡ writer.old)) }
 {
     let mut parts = Parts::with_limit(alloc, dialect, limit);
@@ -133,9 +142,16 @@ pub fn run<R: Source, W: Sink>(
     ensures ok { IfOk result (Wrote 4294967295 dialect.now (R.remaining reader.old) (W.contents writer.old) (W.contents writer.new)) }
     ensures sound { OnOk result ((R.has_failed reader.new ≡ false) × (W.has_failed writer.new ≡ false) × (W.stalls writer.new ≡ W.stalls writer.old)) }
     ensures front { OnErr result (WroteFront 4294967295 dialect.now (R.remaining reader.old) (W.contents writer.old) (W.contents writer.new)) }
+    // the script is whole only where a read gave no byte
+    ensures ended { IfOk result (λ e. e ≡ End.Whole → CountsOn 1 (R.ends reader.old) (R.ends reader.new)) }
+    ensures budget { R.reads reader.new ≤ R.reads reader.old + 2 ^ 40 }
     ensures read { IfErr result (λ f. f ≡ RunFault.Read → (R.has_failed reader.new ≡ true) ⊎ CountsOn (2 ^ 40) (R.reads reader.old) (R.reads reader.new)) }
-    ensures whole { IfErr result (λ f. f ≡ RunFault.Read → WroteSoFar 4294967295 dialect.now (R.remaining reader.old) (W.contents writer.old) (W.contents writer.new)) }
-    ensures write { IfErr result (λ f. f ≡ RunFault.Write → (W.has_failed writer.new ≡ true) ⊎ CountsOn 1 (W.stalls writer.old) (W.stalls writer.new)) }
+    // nothing is read behind the end, and nothing is written behind a fault of the reader: each such call could fail
+    ensures last { IfErr result (λ f. f ≡ RunFault.Read → (R.ends reader.new ≡ R.ends reader.old) × (W.has_failed writer.new ≡ false) × (W.stalls writer.new ≡ W.stalls writer.old)) }
+    ensures whole { IfErr result (λ f. f ≡ RunFault.Read → WroteSoFar 4294967295 dialect.now (R.remaining reader.old) (W.contents writer.old) (W.contents writer.new) (R.remaining reader.new)) }
+    ensures write { IfErr result (λ f. f ≡ RunFault.Write → Breaks (W.has_failed writer.new) (W.stalls writer.old) (W.stalls writer.new)) }
+    // nothing is read while a reply is owed: that read could fail before the write does
+    ensures prompt { IfErr result (λ f. f ≡ RunFault.Write → R.has_failed reader.new ≡ false) }
     ensures memory { IfErr result (λ f. f ≡ RunFault.Memory → (reader.new ≡ reader.old) × (writer.new ≡ writer.old)) }
 {
     run_with(alloc, reader, writer, dialect, u32::MAX)

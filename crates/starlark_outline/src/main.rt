@@ -9,17 +9,18 @@ mod ahead;
 mod command;
 mod cursor;
 mod device;
+#[cfg(test)]
+mod device_tests;
 mod engine;
 mod fault;
 pub mod grammar_laws;
 pub mod laws;
 mod parse;
-#[cfg(test)]
-mod parse_tests;
 mod part;
 mod parts;
 mod reading;
 mod reply;
+pub mod script_laws;
 mod status;
 #[cfg(test)]
 mod tests;

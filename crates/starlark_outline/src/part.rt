@@ -1,6 +1,6 @@
 //! One part, which is read alone.
 
-ghost use Rattle.std.specs.Prelude.{◌≡◌, ◌≤◌, ◌↔◌, IfOk, IfErr, IsTrue, length, map};
+ghost use Rattle.std.specs.Prelude.{◌≡◌, ◌≤◌, ◌↔◌, IfOk, IfErr, IsTrue, codes, length, map};
 ghost use Rattle.starlark_place.specs.Place.{extent};
 ghost use Rattle.starlark_place.specs.Resolved.{resolved_span};
 ghost use Rattle.starlark_lexer.specs.Joining.{IsClosed};
@@ -32,6 +32,7 @@ pub(crate) struct Part {
 // the text under the name of all parts
 fn named(alloc: Global, text: &str) -> Result<CodeMap, PartFault>
     ensures ok { IfOk result (λ m. m.source ≡ text.now) }
+    ensures name { IfOk result (λ m. m.name ≡ codes "part") }
     ensures err { IfErr result (λ e. e ≡ PartFault.Memory) }
 {
     let name = String::from_str(alloc, "part")?;

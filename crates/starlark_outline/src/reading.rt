@@ -4,7 +4,7 @@ ghost use Rattle.std.specs.Prelude.{◌≡◌, ◌≢◌, ℕ, ◌+◌, ◌-◌,
 ghost use Rattle.std.specs.Io.KnownBytes.{Consumes, IsAtEnd};
 ghost use Rattle.starlark_outline.specs.Coming.{coming, weight};
 ghost use Rattle.starlark_outline.specs.Device.{CountsOn};
-ghost use Rattle.starlark_outline.specs.Reading.{IsLine, LineFits, line_goes, IsTaken, IsSkipped, IsRequest, goes_on};
+ghost use Rattle.starlark_outline.specs.Reading.{IsLine, LineFits, LineEnds, StopsInLine, line_goes, IsTaken, TextEnds, StopsBefore, IsSkipped, IsRequest, RequestEnds, StopsCut, goes_on};
 
 use crate::ahead::Ahead;
 use crate::command::{Head, command};
@@ -67,6 +67,9 @@ fn next_line<R: Source>(
     ensures sound { OnOk result (R.has_failed reader.new ≡ false) }
     ensures ok { IfOk result (IsLine (coming ahead.old (R.remaining reader.old)) (coming ahead.new (R.remaining reader.new)) line.new) }
     ensures fits { IfOk result LineFits }
+    ensures ends { IfOk result (LineEnds (R.ends reader.old) (R.ends reader.new)) }
+    ensures cut { OnErr result (StopsInLine (coming ahead.old (R.remaining reader.old)) (R.remaining reader.new)) }
+    ensures still { OnErr result (R.ends reader.new ≡ R.ends reader.old) }
     ensures err { IfErr result (λ e. (e ≡ RunFault.Read) × ((R.has_failed reader.new ≡ true) ⊎ (ahead.new.reads ≡ 0))) }
     ensures lighter { IfOk result (λ l. line_goes l ≡ true → weight ahead.new < weight ahead.old) }
     ensures count { CountsOn (ahead.old.reads - ahead.new.reads) (R.reads reader.old) (R.reads reader.new) }
@@ -103,7 +106,10 @@ fn next_line<R: Source>(
 fn skip<R: Source>(ahead: &mut Ahead, reader: &mut R, count: u64) -> Result<bool, RunFault>
     requires { R.has_failed reader.old ≡ false }
     ensures sound { OnOk result (R.has_failed reader.new ≡ false) }
+    ensures ends { IfOk result (λ b. b ≡ true → R.ends reader.new ≡ R.ends reader.old) }
     ensures ok { IfOk result (IsSkipped (coming ahead.old (R.remaining reader.old)) (coming ahead.new (R.remaining reader.new)) count) }
+    ensures cut { OnErr result (StopsBefore count (coming ahead.old (R.remaining reader.old)) (R.remaining reader.new)) }
+    ensures still { OnErr result (R.ends reader.new ≡ R.ends reader.old) }
     ensures err { IfErr result (λ e. (e ≡ RunFault.Read) × ((R.has_failed reader.new ≡ true) ⊎ (ahead.new.reads ≡ 0))) }
     ensures lighter { weight ahead.new ≤ weight ahead.old }
     ensures count { CountsOn (ahead.old.reads - ahead.new.reads) (R.reads reader.old) (R.reads reader.new) }
@@ -128,7 +134,10 @@ fn take_text<R: Source>(
 ) -> Result<Taken, RunFault>
     requires { R.has_failed reader.old ≡ false }
     ensures sound { OnOk result (R.has_failed reader.new ≡ false) }
+    ensures ends { IfOk result (TextEnds (R.ends reader.old) (R.ends reader.new)) }
     ensures ok { IfOk result (IsTaken (coming ahead.old (R.remaining reader.old)) (coming ahead.new (R.remaining reader.new)) count) }
+    ensures cut { OnErr result (StopsBefore count (coming ahead.old (R.remaining reader.old)) (R.remaining reader.new)) }
+    ensures still { OnErr result (R.ends reader.new ≡ R.ends reader.old) }
     ensures err { IfErr result (λ e. (e ≡ RunFault.Read) × ((R.has_failed reader.new ≡ true) ⊎ (ahead.new.reads ≡ 0))) }
     ensures lighter { weight ahead.new ≤ weight ahead.old }
     ensures count { CountsOn (ahead.old.reads - ahead.new.reads) (R.reads reader.old) (R.reads reader.new) }
@@ -166,6 +175,10 @@ pub fn next_request<R: Source>(
     ensures sound { OnOk result (R.has_failed reader.new ≡ false) }
     ensures ok { IfOk result (IsRequest (coming ahead.old (R.remaining reader.old)) (coming ahead.new (R.remaining reader.new))) }
     ensures err { IfErr result (λ e. (e ≡ RunFault.Read) × ((R.has_failed reader.new ≡ true) ⊎ (ahead.new.reads ≡ 0))) }
+    ensures ends { IfOk result (RequestEnds (R.ends reader.old) (R.ends reader.new)) }
+    // it fails only where no request was whole: none is kept back
+    ensures cut { OnErr result (StopsCut (coming ahead.old (R.remaining reader.old)) (R.remaining reader.new)) }
+    ensures still { OnErr result (R.ends reader.new ≡ R.ends reader.old) }
     ensures lighter { IfOk result (λ q. goes_on q ≡ true → weight ahead.new < weight ahead.old) }
     ensures count { CountsOn (ahead.old.reads - ahead.new.reads) (R.reads reader.old) (R.reads reader.new) }
     ensures fewer { ahead.new.reads ≤ ahead.old.reads }

@@ -2,7 +2,7 @@
 
 ghost use Rattle.std.specs.Prelude.{◌≡◌, ◌⊎◌, ℕ, List, [], ◌∷◌, ◌++◌, Bool, true, false, IfErr, OnErr, OnOk};
 ghost use Rattle.std.specs.Io.KnownBytes.{Appends};
-ghost use Rattle.starlark_outline.specs.Device.{AppendsFront, CountsOn};
+ghost use Rattle.starlark_outline.specs.Device.{AppendsFront, Breaks};
 
 use crate::device::Sink;
 use crate::fault::RunFault;
@@ -14,7 +14,7 @@ pub fn write_all<W: Sink>(writer: &mut W, bytes: &[u8]) -> Result<(), RunFault>
     ensures ok { OnOk result (Appends (W.contents writer.old) (W.contents writer.new) bytes.now) }
     ensures sound { OnOk result ((W.has_failed writer.new ≡ false) × (W.stalls writer.new ≡ W.stalls writer.old)) }
     ensures front { OnErr result (AppendsFront (W.contents writer.old) (W.contents writer.new) bytes.now) }
-    ensures err { IfErr result (λ e. (e ≡ RunFault.Write) × ((W.has_failed writer.new ≡ true) ⊎ CountsOn 1 (W.stalls writer.old) (W.stalls writer.new))) }
+    ensures err { IfErr result (λ e. (e ≡ RunFault.Write) × Breaks (W.has_failed writer.new) (W.stalls writer.old) (W.stalls writer.new)) }
 {
     let mut at = 0;
     while at < bytes.len() {

@@ -18,6 +18,7 @@ commands-init g c = record {
   still = first_of (search rules, grind (arith, common_steps));
   fewer = first_of (search rules, grind (arith, common_steps));
   count = first_of (search rules, grind (arith, common_steps));
+  ends = first_of (search rules, grind (arith, common_steps));
 }
 
 pub returns-in_err-next_request-clause-front : goal.returns-in_err-next_request-clause-front
@@ -28,7 +29,7 @@ returns-in_err-next_request-clause-front g c =
 pub returns-in_err-next_request-clause-whole : goal.returns-in_err-next_request-clause-whole
 returns-in_err-next_request-clause-whole g c =
     let p = err_from_is_err_and c.from_residual.result c.from_residual.ensures.1 in
-    rw p.1 (λ e. going_so_far c.args.limit c.args.dialect.now _ _ c.commands.parts.texts _ _ c.commands.invariant.going)
+    rw p.1 (λ e. going_so_far c.args.limit c.args.dialect.now _ _ c.commands.parts.texts _ _ _ c.commands.invariant.going c.in_err-next_request.ensures.cut)
 
 pub returns-in-Whole-clause-ok : goal.returns-in-Whole-clause-ok
 returns-in-Whole-clause-ok g c =
@@ -65,4 +66,5 @@ commands-preserved g c =
       still = first_of (search rules, grind (arith, common_steps));
       fewer = first_of (search rules, grind (arith, common_steps));
       count = first_of (search rules, grind (arith, common_steps));
+      ends = first_of (search rules, grind (arith, common_steps));
     }

@@ -16,6 +16,7 @@ invariant-commands g l = record {
   writes : g.W.Sink.has_failed l.writer ≡ false;
   still : g.W.Sink.stalls l.writer ≡ g.W.Sink.stalls l.fn.writer;
   fewer : l.ahead.reads ≤ 2 ^ 40;
+  ends : g.R.Source.ends l.reader ≡ g.R.Source.ends l.fn.reader;
   count : CountsOn (2 ^ 40 - l.ahead.reads) (g.R.Source.reads l.fn.reader) (g.R.Source.reads l.reader);
 }
 

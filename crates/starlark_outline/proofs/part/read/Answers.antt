@@ -11,7 +11,7 @@ returns-clause-ok c =
     let text : List ℕ = c.as_bytes-bytes.result.now in
     let same : c.in_ok-codemap.codemap.source ≡ text = search rules in
     let closed : IsClosed text = c.if-not-is_closed.ensures.0 (search rules) in
-    is_part c.args.dialect.now _ text (map stmt_view c.in-Ok.statements.items) same closed (subst (λ t. Language t (map stmt_view c.in-Ok.statements.items)) same c.in-Ok.ensures.sound) (search rules) (search rules)
+    is_part c.args.dialect.now _ text (map stmt_view c.in-Ok.statements.items) c.in_ok-codemap.ensures.name same closed (subst (λ t. Language t (map stmt_view c.in-Ok.statements.items)) same c.in-Ok.ensures.sound) (search rules) (search rules)
 
 pub returns-in-Err-clause-err : goal.returns-in-Err-clause-err
 returns-in-Err-clause-err c =

@@ -1,9 +1,10 @@
 use Rattle.std.proofs.Common.{◌≡◌, ◌<◌, length, take, arith, rules}
 use Rattle.std.proofs.lemmas.Grind.{common_steps}
 use Rattle.std.proofs.lemmas.List.{length-take, take_more_set}
+use Rattle.std.proofs.lemmas.Result.{err_from_is_err_and}
 use Rattle.starlark_outline.proofs.Lines.{more_set_at}
 use Rattle.starlark_outline.proofs.Known.{consumes_more}
-use Rattle.starlark_outline.proofs.Taking.{line_end, line_cut, line_of, line_long}
+use Rattle.starlark_outline.proofs.Taking.{line_end, line_cut, line_of, line_long, stops_in_line}
 use Rattle.starlark_outline.proofs.reading.next_line.Goals as goal
 
 pub returns-then-i-eq0-clause-ok : goal.returns-then-i-eq0-clause-ok
@@ -28,6 +29,7 @@ loop-i-preserved g c =
       lighter = first_of (search rules, grind (arith, common_steps));
       count = first_of (search rules, grind (arith, common_steps));
       fewer = first_of (search rules, grind (arith, common_steps));
+      ends = first_of (search rules, grind (arith, common_steps));
     }
 
 pub returns-then-b-eq10-2-clause-ok : goal.returns-then-b-eq10-2-clause-ok
@@ -42,3 +44,13 @@ returns-in-None-2-clause-ok g c =
 pub returns-else-b-eq10-2-clause-ok : goal.returns-else-b-eq10-2-clause-ok
 returns-else-b-eq10-2-clause-ok g c =
     line_long _ _ _ (take c.loop-i.i c.loop-i.line) c.loop-i.line c.in-Some-2.b (simp length-take (grind (arith, common_steps))) c.loop-i.invariant.plain c.if-b-eq10-2.false c.loop-i.invariant.taken ((rw c.in-Some-2.is at c.in_ok-next-2.ensures.ok).0)
+
+pub returns-in_err-next-clause-cut : goal.returns-in_err-next-clause-cut
+returns-in_err-next-clause-cut g c =
+    let p = err_from_is_err_and c.from_residual.result c.from_residual.ensures.1 in
+    rw p.1 (stops_in_line _ _ _ (take c.loop-i.i c.loop-i.line) c.loop-i.invariant.plain (simp length-take (grind (arith, common_steps))) c.loop-i.invariant.taken c.in_err-next.ensures.lost)
+
+pub returns-in_err-next-2-clause-cut : goal.returns-in_err-next-2-clause-cut
+returns-in_err-next-2-clause-cut g c =
+    let p = err_from_is_err_and c.from_residual-in_err-next-2.result c.from_residual-in_err-next-2.ensures.1 in
+    rw p.1 (stops_in_line _ _ _ (take c.loop-i.i c.loop-i.line) c.loop-i.invariant.plain (simp length-take (grind (arith, common_steps))) c.loop-i.invariant.taken c.in_err-next-2.ensures.lost)

@@ -13,4 +13,5 @@ loop-i-preserved g c =
       lighter = first_of (search rules, grind (arith, common_steps));
       count = first_of (search rules, grind (arith, common_steps));
       fewer = first_of (search rules, grind (arith, common_steps));
+      ends = first_of (search rules, grind (arith, common_steps));
     }

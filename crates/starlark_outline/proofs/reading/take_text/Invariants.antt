@@ -12,4 +12,5 @@ invariant-loop-i g l = record {
   lighter : weight l.ahead ≤ weight l.fn.ahead;
   count : CountsOn (l.fn.ahead.reads - l.ahead.reads) (g.R.Source.reads l.fn.reader) (g.R.Source.reads l.reader);
   fewer : l.ahead.reads ≤ l.fn.ahead.reads;
+  ends : g.R.Source.ends l.reader ≡ g.R.Source.ends l.fn.reader;
 }
