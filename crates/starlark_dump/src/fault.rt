@@ -1,0 +1,58 @@
+//! How a run ends, and how the program tells it.
+
+use std::io;
+
+/// How a run ended.
+#[derive(Clone, Copy)]
+pub(crate) enum End {
+    /// After the last answer, which may be none.
+    Whole,
+    /// After `bad`.
+    Bad,
+}
+
+/// Why a run was given up.
+#[derive(Clone, Copy)]
+pub(crate) enum RunFault {
+    /// A read failed.
+    Read,
+    /// A write failed.
+    Write,
+    /// There was no memory for the arguments, the buffer or a line. Want of memory for a text or its answer is no fault
+    /// of the run.
+    Memory,
+}
+
+impl RunFault {
+    /// The fault of a read that failed.
+    pub(crate) fn of_read(error: io::Error) -> RunFault {
+        if error.kind() == io::ErrorKind::OutOfMemory {
+            RunFault::Memory
+        } else {
+            RunFault::Read
+        }
+    }
+
+    /// The fault of a write that failed.
+    pub(crate) fn of_write(_error: io::Error) -> RunFault {
+        RunFault::Write
+    }
+}
+
+/// The status that the program ends with: 0 after the last answer, 2 after `bad`, 1 after a fault.
+pub(crate) fn status(end: &Result<End, RunFault>) -> u8 {
+    match end {
+        Ok(End::Whole) => 0,
+        Ok(End::Bad) => 2,
+        Err(_) => 1,
+    }
+}
+
+/// What the program says of a fault, without a line feed.
+pub(crate) fn fault_line(fault: &RunFault) -> &'static str {
+    match fault {
+        RunFault::Read => "fault: read",
+        RunFault::Write => "fault: write",
+        RunFault::Memory => "fault: memory",
+    }
+}
