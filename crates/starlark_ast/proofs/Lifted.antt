@@ -1,0 +1,71 @@
+-- A closure that calls another one at places that its own place gives.
+use Rattle.std.proofs.Common.{◌≡◌, refl, sym, ap, ◌∙◌, subst, List, [], ◌∷◌, ◌++◌, flat_map, ℕ, inl, inr, Result, Ok, Err}
+use Rattle.std.specs.Fn.{Called, Mut}
+use denote.Param.Always.{always_mut, mut_next}
+use Rattle.starlark_ast.specs.Calls.{CalledOn, CallsAll, CallsEach, CallsUntil, StopsAtErr}
+
+err_not_ok : {E : Type 0} {e : E} {r : Result (Unit {0}) E} → r ≡ Err e → r ≡ Ok tt → ⊥
+err_not_ok h k = cc
+
+pub singles : {A : Type 0} (xs : List A) → flat_map (λ x. x ∷ []) xs ≡ xs
+singles [] = refl
+singles (x ∷ xs) = ap (λ ys. x ∷ ys) (singles xs)
+
+module _ {F X A : Type 0} (show : X → A) (g : Mut F (X × Unit {0}) (Unit {0})) where
+  pub all_more : (xs ys : List A) (f mid last : F) → CallsAll show g f xs mid → CallsAll show g mid ys last → CallsAll show g f (xs ++ ys) last
+  all_more [] ys f mid last h k = subst (λ p. CallsAll show g p ys last) (sym h) k
+  all_more (x ∷ xs) ys f mid last h k = (h.0, h.1, all_more xs ys h.0 mid last h.2 k)
+
+  pub all_none : {f : F} → CallsEach show g f [] f
+  all_none = record { told = refl }
+
+  pub all_then : {f mid last : F} {y : X} {r : Unit {0}} {x : A} {xs : List A} → Called g f (y, tt) r mid → show y ≡ x → CallsEach show g mid xs last → CallsEach show g f (x ∷ xs) last
+  all_then {f} {mid} {last} {y} {r} {x} {xs} h is rest = record { told = (mid, record { shown = y; shows = is; called = h }, rest.told) }
+
+  pub all_at : {f last : F} {ys xs : List A} → ys ≡ xs → CallsEach show g f xs last → CallsEach show g f ys last
+  all_at {f} {last} {ys} {xs} is h = subst (λ (zs : List A). CallsEach show g f zs last) (sym is) h
+
+  -- after calls it may be called still
+  pub all_callable : (xs : List A) (f last : F) → always_mut g f → CallsAll show g f xs last → always_mut g last
+  all_callable [] f last can h = subst (always_mut g) h can
+  all_callable (x ∷ xs) f last can h = all_callable xs h.0 last (mut_next g f (h.1.shown, tt) tt h.0 h.0 h.1.called refl can) h.2
+
+module _ {F X A E : Type 0} (show : X → A) (g : Mut F (X × Unit {0}) (Result (Unit {0}) E)) where
+  pub until_callable : (xs : List A) (f last : F) (r : Result (Unit {0}) E) → always_mut g f → CallsUntil show g f xs r last → always_mut g last
+  until_callable [] f last r can h = subst (always_mut g) h.1 can
+  until_callable (x ∷ xs) f last r can h =
+      elim h [
+        | inl c ↦ until_callable xs c.0 last r (mut_next g f (c.1.shown, tt) (Ok tt) c.0 c.0 c.1.called refl can) c.2
+        | inr c ↦ mut_next g f (c.1.shown, tt) (Err c.0) last last c.1.called refl can
+      ]
+
+-- k calls g, which goes on at each place, at those that places gives
+module _ {F G X Y A B E : Type 0} (shown : X → A) (g : Mut F (X × Unit {0}) (Unit {0})) (show : Y → B) (k : Mut G (Y × Unit {0}) (Result (Unit {0}) E)) (value : G → F) (name : G → ℕ) (places : B → List A) (each : (p q : G) (y : B) (r : Result (Unit {0}) E) → CalledOn show k p y r q → (r ≡ Ok tt) × CallsAll shown g (value p) (places y) (value q) × (name q ≡ name p)) where
+  lift : (ys : List B) (p q : G) (r : Result (Unit {0}) E) → CallsUntil show k p ys r q → CallsAll shown g (value p) (flat_map places ys) (value q) × (name q ≡ name p)
+  lift [] p q r h = (ap value h.1, ap name (sym h.1))
+  lift (y ∷ ys) p q r h =
+      elim h [
+        | inl c ↦ (let one = each p c.0 y (Ok tt) c.1 in let others = lift ys c.0 q r c.2 in (all_more shown g (places y) (flat_map places ys) (value p) (value c.0) (value q) one.1 others.0, others.1 ∙ one.2))
+        | inr c ↦ absurd (err_not_ok refl (each p q y (Err c.0) c.1).0)
+      ]
+
+  -- where last is what it holds at the end
+  pub lifted : (ys : List B) {xs : List A} {p q : G} (r : Result (Unit {0}) E) (last : F) → CallsUntil show k p ys r q → (name q ≡ name p → value q ≡ last) → flat_map places ys ≡ xs → CallsEach shown g (value p) xs last
+  lifted ys {xs} {p} {q} r last h is all =
+      let both = lift ys p q r h in
+      record { told = subst (λ (s : F). CallsAll shown g (value p) xs s) (is both.1) (subst (λ zs. CallsAll shown g (value p) zs (value q)) all both.0) }
+
+-- the same where g answers as k does
+module _ {F G X Y A B E : Type 0} (shown : X → A) (g : Mut F (X × Unit {0}) (Result (Unit {0}) E)) (show : Y → B) (k : Mut G (Y × Unit {0}) (Result (Unit {0}) E)) (value : G → F) (name : G → ℕ) (place : B → A) (each : (p q : G) (y : B) (r : Result (Unit {0}) E) → CalledOn show k p y r q → CalledOn shown g (value p) (place y) r (value q) × (name q ≡ name p)) where
+  pass : (ys : List B) (p q : G) (r : Result (Unit {0}) E) → CallsUntil show k p ys r q → CallsUntil shown g (value p) (flat_map (λ y. place y ∷ []) ys) r (value q) × (name q ≡ name p)
+  pass [] p q r h = ((h.0, ap value h.1), ap name (sym h.1))
+  pass (y ∷ ys) p q r h =
+      elim h [
+        | inl c ↦ (let one = each p c.0 y (Ok tt) c.1 in let others = pass ys c.0 q r c.2 in (inl (value c.0, one.0, others.0), others.1 ∙ one.1))
+        | inr c ↦ (let one = each p q y (Err c.0) c.1 in (inr (c.0, one.0, c.2), one.1))
+      ]
+
+  pub passed : (ys : List B) {xs : List A} {p q : G} (r : Result (Unit {0}) E) (last : F) → CallsUntil show k p ys r q → (name q ≡ name p → value q ≡ last) → flat_map (λ y. place y ∷ []) ys ≡ xs → StopsAtErr shown g (value p) xs r last
+  passed ys {xs} {p} {q} r last h is all =
+      let both = pass ys p q r h in
+      record { told = subst (λ (s : F). CallsUntil shown g (value p) xs r s) (is both.1) (subst (λ zs. CallsUntil shown g (value p) zs r (value q)) all both.0) }

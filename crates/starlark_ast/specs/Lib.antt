@@ -1,0 +1,9 @@
+pub mod Access
+pub mod Calls
+pub mod Places
+pub mod Printing
+pub mod StatementViews
+pub mod Statements
+pub mod Tree
+pub mod View
+pub mod Views

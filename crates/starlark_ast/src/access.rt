@@ -1,0 +1,138 @@
+//! Parts of arguments and parameters, and what signatures span.
+
+ghost use Rattle.std.specs.Prelude.{◌≡◌};
+ghost use Rattle.std.specs.Option.{option_copied};
+ghost use Rattle.starlark_ast.specs.Access.{argument_expr, argument_name, def_signature, lambda_signature, load_arg_span, load_arg_whole_span, merged_with, parameter_default, parameter_ident, parameter_type, unboxed};
+
+use crate::ast::{
+    ArgumentP, AstAssignIdentP, AstExprP, AstPayload, AstTypeExprP, DefP, LambdaP, LoadArgP,
+    ParameterP,
+};
+use starlark_place::pos::{Span, Spanned};
+
+impl<P: AstPayload> ArgumentP<P> {
+    /// The expression of the argument.
+    pub fn expr(&self) -> &AstExprP<P>
+        ensures { result.now ≡ argument_expr self.now }
+    {
+        match self {
+            ArgumentP::Positional(x) => x,
+            ArgumentP::Named(_, x) => x,
+            ArgumentP::Args(x) => x,
+            ArgumentP::KwArgs(x) => x,
+        }
+    }
+
+    /// The name of an argument that has one.
+    pub fn name(&self) -> Option<&str>
+        ensures { option_copied result ≡ argument_name self.now }
+    {
+        match self {
+            ArgumentP::Positional(_) => None,
+            ArgumentP::Named(name, _) => Some(name.node.as_str()),
+            ArgumentP::Args(_) => None,
+            ArgumentP::KwArgs(_) => None,
+        }
+    }
+}
+
+impl<P: AstPayload> ParameterP<P> {
+    /// The name, the type and the default, each where there is one.
+    pub fn split(
+        &self,
+    ) -> (
+        Option<&AstAssignIdentP<P>>,
+        Option<&AstTypeExprP<P>>,
+        Option<&AstExprP<P>>,
+    )
+        ensures name { option_copied result.0 ≡ parameter_ident self.now }
+        ensures type_expr { option_copied result.1 ≡ parameter_type self.now }
+        ensures default { option_copied result.2 ≡ parameter_default self.now }
+    {
+        match self {
+            ParameterP::Slash => (None, None, None),
+            ParameterP::Normal(name, ty, default) => (Some(name), lent(ty), lent(default)),
+            ParameterP::NoArgs => (None, None, None),
+            ParameterP::Args(name, ty) => (Some(name), lent(ty), None),
+            ParameterP::KwArgs(name, ty) => (Some(name), lent(ty), None),
+        }
+    }
+
+    /// The name of a parameter that has one.
+    pub fn ident(&self) -> Option<&AstAssignIdentP<P>>
+        ensures { option_copied result ≡ parameter_ident self.now }
+    {
+        match self {
+            ParameterP::Slash => None,
+            ParameterP::Normal(name, _, _) => Some(name),
+            ParameterP::NoArgs => None,
+            ParameterP::Args(name, _) => Some(name),
+            ParameterP::KwArgs(name, _) => Some(name),
+        }
+    }
+}
+
+// what a box holds, where there is one
+fn lent<T>(x: &Option<Box<T>>) -> Option<&T>
+    ensures { option_copied result ≡ unboxed x.now }
+{
+    match x {
+        None => None,
+        Some(x) => Some(x),
+    }
+}
+
+// one span and those of others
+fn merged_with<T>(first: Span, others: &[Spanned<T>]) -> Span
+    ensures { result ≡ merged_with first others.now }
+{
+    let mut all = first;
+    for x in others {
+        all = all.merge(x.span);
+    }
+    all
+}
+
+impl<P: AstPayload> LambdaP<P> {
+    /// From the first parameter to the last, or the body's span where there is none.
+    pub fn signature_span(&self) -> Span
+        ensures { result ≡ lambda_signature self.now }
+    {
+        match self.params.split_first() {
+            None => self.body.span,
+            Some((first, rest)) => merged_with(first.span, rest),
+        }
+    }
+}
+
+impl<P: AstPayload> DefP<P> {
+    /// The spans of the name, the parameters and the type of what is returned.
+    pub fn signature_span(&self) -> Span
+        ensures { result ≡ def_signature self.now }
+    {
+        let span = merged_with(self.name.span, &self.params);
+        match &self.return_type {
+            None => span,
+            Some(ty) => span.merge(ty.span),
+        }
+    }
+}
+
+impl<P: AstPayload> LoadArgP<P> {
+    /// The spans of the local name and of the name in the other module.
+    pub fn span(&self) -> Span
+        ensures { result ≡ load_arg_span self.now }
+    {
+        self.local.span.merge(self.their.span)
+    }
+
+    /// The same, with the comma behind it where there is one.
+    pub fn span_with_trailing_comma(&self) -> Span
+        ensures { result ≡ load_arg_whole_span self.now }
+    {
+        match &self.comma {
+            None => self.span(),
+            Some(comma) => self.span().merge(comma.span),
+        }
+    }
+}
