@@ -1,0 +1,5 @@
+pub mod Adding
+mod Examples
+pub mod Nodes
+pub mod Prefixes
+pub mod Converting

@@ -1,0 +1,11 @@
+pub mod Rules
+pub mod Targets
+pub mod Calls
+pub mod Types
+pub mod Parameters
+pub mod Kept
+pub mod Late
+pub mod View
+pub mod Assignable
+pub mod Found
+pub mod Standings

@@ -1,0 +1,9 @@
+//! What breaks which rule, and where.
+#![tactic(auto)]
+
+pub mod assign;
+pub mod call;
+pub mod def;
+mod late;
+pub mod parameters;
+pub mod rule;
