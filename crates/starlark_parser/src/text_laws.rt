@@ -1,0 +1,39 @@
+//! Laws of the language as a set of texts.
+
+ghost use Rattle.std.specs.Prelude.{List, length, ◌≡◌, ◌⊎◌, ℕ};
+ghost use Rattle.starlark_parser.specs.Spans.{stretch};
+ghost use Rattle.starlark_lexer.specs.Items.{Lexed};
+ghost use Rattle.starlark_lexer.specs.Lex.{Lex, start};
+ghost use Rattle.starlark_lexer.specs.declared.dialect.Dialect.{Dialect};
+ghost use Rattle.starlark_ast.specs.Tree.{Statement};
+ghost use Rattle.starlark_parser.specs.Language.{Fault, IsRefused, Language};
+ghost use Rattle.starlark_parser.specs.Nested.{StatementIn};
+
+use starlark_lexer::laws::{in_order, one_reading};
+
+/// A text has one tree with its places at most.
+pub fn one_tree()
+    ensures { (dialect : Dialect) (text : List ℕ) (a b : Statement) → Language dialect text a → Language dialect text b → a ≡ b }
+{
+    one_reading();
+}
+
+/// A text is refused for one reason at most, and only where it is not in the language.
+pub fn one_refusal()
+    ensures one { (dialect : Dialect) (text : List ℕ) (f g : Fault) → IsRefused dialect text f → IsRefused dialect text g → f ≡ g }
+    ensures other { (dialect : Dialect) (text : List ℕ) (tree : Statement) (f : Fault) → Language dialect text tree → IsRefused dialect text f → ⊥ }
+{
+    one_reading();
+}
+
+/// A text that is cut into lexemes is in the language, with a tree, or refused, for a reason.
+pub fn decided()
+    ensures { (dialect : Dialect) (text : List ℕ) (lexed : Lexed) → Lex start text lexed → ((tree : Statement) × Language dialect text tree) ⊎ ((f : Fault) × IsRefused dialect text f) }
+{}
+
+/// In the tree of a text each part lies in the node around it, and all in the text.
+pub fn nested_places()
+    ensures { (dialect : Dialect) (text : List ℕ) (tree : Statement) → Language dialect text tree → StatementIn (stretch 0 (length text)) tree }
+{
+    in_order();
+}
