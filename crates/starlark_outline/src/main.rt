@@ -6,6 +6,8 @@
 #![tactic(auto)]
 
 mod ahead;
+#[cfg(test)]
+mod case_tests;
 mod command;
 mod cursor;
 mod device;

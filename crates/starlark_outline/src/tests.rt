@@ -1,4 +1,4 @@
-//! Limits, scripts that end as bad, and what faults print. Other scripts stand in `cases/` and in `stdin`.
+//! Limits, scripts that end as bad at once, and what faults print. Other scripts stand in `cases/` and in `stdin`.
 
 use super::*;
 use crate::device_tests::{NEVER, Tight, run_short};
@@ -19,16 +19,9 @@ fn limits(rt: HostRuntime) -> Result<(), Fail> {
     Ok(())
 }
 
-/// What is no command, or is cut short; the last is a line of 65 bytes.
-static BAD: [&[u8]; 10] = [
-    b"outline",
+/// What is no command; the last is a line of 65 bytes.
+static BAD: [&[u8]; 3] = [
     b"outlin\n",
-    b"insert  0 1\n",
-    b"insert 0 4294967296\n",
-    b"insert 0 00000000006\nx = 1\n",
-    b"insert 0 9\nx = 1\n",
-    b"replace 0 1\n\n",
-    b"remove 0\n",
     b"move 0 0\noutline\n",
     b"ooooooooooooooooooooooooooooooooooooooooooooooooooooooooooooooooo\n",
 ];
