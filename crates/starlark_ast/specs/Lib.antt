@@ -2,6 +2,7 @@ pub mod Access
 pub mod Calls
 pub mod Places
 pub mod Printing
+pub mod Shown
 pub mod StatementViews
 pub mod Statements
 pub mod Tree

@@ -3,6 +3,7 @@
 
 mod access;
 pub mod ast;
+mod leaves;
 pub mod making;
 pub mod visit;
 mod walk;
