@@ -4,6 +4,7 @@
 mod access;
 pub mod ast;
 mod leaves;
+mod leaf;
 pub mod making;
 pub mod visit;
 mod walk;

@@ -1,0 +1,82 @@
+//! Literals and names again.
+
+ghost use Rattle.std.specs.Prelude.{◌≡◌, IfOk, string_bytes};
+ghost use Rattle.starlark_place.specs.Place.{Extent};
+ghost use Rattle.starlark_ast.specs.View.{literal_view};
+ghost use Rattle.starlark_lexer.specs.Items.{number_of};
+
+use crate::ast::{AssignIdentP, AstLiteral, AstNoPayload, AstString, IdentP};
+use starlark_lexer::token::TokenInt;
+use starlark_place::pos::{Span, Spanned};
+use std::alloc::{AllocError, Global};
+
+// a text at a place again
+pub(crate) fn text(alloc: Global, x: &str, span: Span) -> Result<AstString, AllocError>
+    ensures bytes { IfOk result (λ y. string_bytes y.node ≡ x.now) }
+    ensures place { IfOk result (λ y. y.span ≡ span) }
+{
+    let node = String::from_str(alloc, x)?;
+    Ok(Spanned { span, node })
+}
+
+// a number again
+fn number(alloc: Global, x: &TokenInt) -> Result<TokenInt, AllocError>
+    ensures { IfOk result (λ y. number_of y ≡ number_of x.now) }
+{
+    match x {
+        TokenInt::I32(n) => Ok(TokenInt::I32(*n)),
+        TokenInt::BigInt {
+            digits,
+            negative,
+            radix,
+        } => {
+            let digits = String::from_str(alloc, digits.as_str())?;
+            Ok(TokenInt::BigInt {
+                digits,
+                negative: *negative,
+                radix: *radix,
+            })
+        }
+    }
+}
+
+impl AstLiteral {
+    /// The same literal, with texts of its own.
+    pub fn clone(&self, alloc: Global) -> Result<AstLiteral, AllocError>
+        ensures { IfOk result (λ x. (s : Extent) → literal_view x s ≡ literal_view self.now s) }
+    {
+        match self {
+            AstLiteral::Int(x) => {
+                let node = number(alloc, &x.node)?;
+                Ok(AstLiteral::Int(Spanned { span: x.span, node }))
+            }
+            AstLiteral::Float(x) => Ok(AstLiteral::Float(text(alloc, x.node.as_str(), x.span)?)),
+            AstLiteral::String(x) => Ok(AstLiteral::String(text(alloc, x.node.as_str(), x.span)?)),
+            AstLiteral::Bytes(x) => {
+                let node = Vec::from_slice(alloc, &x.node)?;
+                Ok(AstLiteral::Bytes(Spanned { span: x.span, node }))
+            }
+            AstLiteral::Ellipsis => Ok(AstLiteral::Ellipsis),
+        }
+    }
+}
+
+impl IdentP<AstNoPayload> {
+    /// The same identifier, with a text of its own.
+    pub fn clone(&self, alloc: Global) -> Result<IdentP<AstNoPayload>, AllocError>
+        ensures { IfOk result (λ x. string_bytes x.ident ≡ string_bytes self.now.ident) }
+    {
+        let ident = String::from_str(alloc, self.ident.as_str())?;
+        Ok(IdentP { ident, payload: () })
+    }
+}
+
+impl AssignIdentP<AstNoPayload> {
+    /// The same identifier, with a text of its own.
+    pub fn clone(&self, alloc: Global) -> Result<AssignIdentP<AstNoPayload>, AllocError>
+        ensures { IfOk result (λ x. string_bytes x.ident ≡ string_bytes self.now.ident) }
+    {
+        let ident = String::from_str(alloc, self.ident.as_str())?;
+        Ok(AssignIdentP { ident, payload: () })
+    }
+}
