@@ -1,11 +1,13 @@
-//! Literals and names again.
+//! Clones of what holds no expression: literals, names and loads.
 
 ghost use Rattle.std.specs.Prelude.{◌≡◌, IfOk, string_bytes};
 ghost use Rattle.starlark_place.specs.Place.{Extent};
-ghost use Rattle.starlark_ast.specs.View.{literal_view};
+ghost use Rattle.starlark_ast.specs.View.{comma_at, ident_at, literal_view, load_view, text_at};
 ghost use Rattle.starlark_lexer.specs.Items.{number_of};
 
-use crate::ast::{AssignIdentP, AstLiteral, AstNoPayload, AstString, IdentP};
+use crate::ast::{
+    AssignIdentP, AstLiteral, AstNoPayload, AstString, Comma, IdentP, LoadArgP, LoadP,
+};
 use starlark_lexer::token::TokenInt;
 use starlark_place::pos::{Span, Spanned};
 use std::alloc::{AllocError, Global};
@@ -78,5 +80,55 @@ impl AssignIdentP<AstNoPayload> {
     {
         let ident = String::from_str(alloc, self.ident.as_str())?;
         Ok(AssignIdentP { ident, payload: () })
+    }
+}
+
+// a comma at its place again
+fn comma(x: &Option<Spanned<Comma>>) -> Option<Spanned<Comma>>
+    ensures { comma_at result ≡ comma_at x.now }
+{
+    match x {
+        None => None,
+        Some(x) => Some(Spanned {
+            span: x.span,
+            node: x.node,
+        }),
+    }
+}
+
+impl LoadArgP<AstNoPayload> {
+    /// The same symbol, with texts of its own.
+    pub fn clone(&self, alloc: Global) -> Result<LoadArgP<AstNoPayload>, AllocError>
+        ensures local { IfOk result (λ x. ident_at x.local ≡ ident_at self.now.local) }
+        ensures their { IfOk result (λ x. text_at x.their ≡ text_at self.now.their) }
+        ensures comma { IfOk result (λ x. comma_at x.comma ≡ comma_at self.now.comma) }
+    {
+        let node = self.local.node.clone(alloc)?;
+        let span = self.local.span;
+        let their = text(alloc, self.their.node.as_str(), self.their.span)?;
+        Ok(LoadArgP {
+            local: Spanned { span, node },
+            their,
+            comma: comma(&self.comma),
+        })
+    }
+}
+
+impl LoadP<AstNoPayload> {
+    /// The same load, with a list and texts of its own.
+    pub fn clone(&self, alloc: Global) -> Result<LoadP<AstNoPayload>, AllocError>
+        ensures { IfOk result (λ x. (s : Extent) → load_view x s ≡ load_view self.now s) }
+    {
+        let module = text(alloc, self.module.node.as_str(), self.module.span)?;
+        let mut args = Vec::new(alloc);
+        for arg in &self.args {
+            let again = arg.clone(alloc)?;
+            args.push(again)?;
+        }
+        Ok(LoadP {
+            module,
+            args,
+            payload: (),
+        })
     }
 }
