@@ -3,3 +3,5 @@ mod Examples
 pub mod Nodes
 pub mod Prefixes
 pub mod Converting
+pub mod Sizes
+pub mod Within

@@ -4,6 +4,7 @@
 pub mod assign;
 pub mod call;
 pub mod def;
+mod expressions;
 mod late;
 pub mod parameters;
 pub mod rule;
