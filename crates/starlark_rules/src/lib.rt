@@ -8,3 +8,4 @@ mod expressions;
 mod late;
 pub mod parameters;
 pub mod rule;
+pub mod tree;
