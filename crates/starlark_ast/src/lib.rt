@@ -6,5 +6,6 @@ pub mod ast;
 mod leaves;
 mod leaf;
 pub mod making;
+pub mod nodes;
 pub mod visit;
 mod walk;

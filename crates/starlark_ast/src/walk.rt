@@ -62,7 +62,10 @@ fn held_type<P: AstPayload, E, F: FnMut(&AstExprP<P>) -> Result<(), E>>(
 }
 
 impl<P: AstPayload> AssignP<P> {
-    fn exprs_err<E, F: FnMut(&AstExprP<P>) -> Result<(), E>>(&self, f: &mut F) -> Result<(), E>
+    pub(crate) fn exprs_err<E, F: FnMut(&AstExprP<P>) -> Result<(), E>>(
+        &self,
+        f: &mut F,
+    ) -> Result<(), E>
         requires { F.IsAlwaysCallable f.old }
         ensures calls { StopsAtErr lent F.FnMut f.old (assign_places self.now) result f.new }
         ensures callable { F.IsAlwaysCallable f.new }
@@ -78,7 +81,10 @@ impl<P: AstPayload> AssignP<P> {
 }
 
 impl<P: AstPayload> ForP<P> {
-    fn exprs_err<E, F: FnMut(&AstExprP<P>) -> Result<(), E>>(&self, f: &mut F) -> Result<(), E>
+    pub(crate) fn exprs_err<E, F: FnMut(&AstExprP<P>) -> Result<(), E>>(
+        &self,
+        f: &mut F,
+    ) -> Result<(), E>
         requires { F.IsAlwaysCallable f.old }
         ensures calls { StopsAtErr lent F.FnMut f.old (for_places self.now) result f.new }
         ensures callable { F.IsAlwaysCallable f.new }
@@ -91,7 +97,10 @@ impl<P: AstPayload> ForP<P> {
 }
 
 impl<P: AstPayload> DefP<P> {
-    fn exprs_err<E, F: FnMut(&AstExprP<P>) -> Result<(), E>>(&self, f: &mut F) -> Result<(), E>
+    pub(crate) fn exprs_err<E, F: FnMut(&AstExprP<P>) -> Result<(), E>>(
+        &self,
+        f: &mut F,
+    ) -> Result<(), E>
         requires { F.IsAlwaysCallable f.old }
         ensures calls { StopsAtErr lent F.FnMut f.old (def_places self.now) result f.new }
         ensures callable { F.IsAlwaysCallable f.new }
@@ -105,7 +114,10 @@ impl<P: AstPayload> DefP<P> {
 
 impl<P: AstPayload> StmtP<P> {
     // each expression right below, up to the first `Err`
-    fn exprs_err<E, F: FnMut(&AstExprP<P>) -> Result<(), E>>(&self, f: &mut F) -> Result<(), E>
+    pub(crate) fn exprs_err<E, F: FnMut(&AstExprP<P>) -> Result<(), E>>(
+        &self,
+        f: &mut F,
+    ) -> Result<(), E>
         requires { F.IsAlwaysCallable f.old }
         ensures calls { StopsAtErr lent F.FnMut f.old (exprs_below self.now) result f.new }
         ensures callable { F.IsAlwaysCallable f.new }
