@@ -1,5 +1,6 @@
 pub mod Access
 pub mod Calls
+pub mod Lending
 pub mod Nodes
 pub mod Places
 pub mod Printing

@@ -1,8 +1,10 @@
 //! Parts of arguments and parameters, and what signatures span.
 
 ghost use Rattle.std.specs.Prelude.{◌≡◌};
+ghost use Rattle.std.specs.Borrow.{sem};
 ghost use Rattle.std.specs.Option.{option_copied};
 ghost use Rattle.starlark_ast.specs.Access.{argument_expr, argument_name, def_signature, lambda_signature, load_arg_span, load_arg_whole_span, merged_with, parameter_default, parameter_ident, parameter_type, unboxed};
+ghost use Rattle.starlark_ast.specs.Lending.{LendsExpr};
 
 use crate::ast::{
     ArgumentP, AstAssignIdentP, AstExprP, AstPayload, AstTypeExprP, DefP, LambdaP, LoadArgP,
@@ -14,6 +16,19 @@ impl<P: AstPayload> ArgumentP<P> {
     /// The expression of the argument.
     pub fn expr(&self) -> &AstExprP<P>
         ensures { result.now ≡ argument_expr self.now }
+    {
+        match self {
+            ArgumentP::Positional(x) => x,
+            ArgumentP::Named(_, x) => x,
+            ArgumentP::Args(x) => x,
+            ArgumentP::KwArgs(x) => x,
+        }
+    }
+
+    /// The expression of the argument, for writing.
+    pub fn expr_mut(&mut self) -> &mut AstExprP<P>
+        ensures* writes_back { sem 𝓛 (LendsExpr P.row P.LoadPayload.row P.IdentPayload.row P.IdentAssignPayload.row P.DefPayload.row P.TypeExprPayload.row self.entry result) }
+        ensures value { result.now ≡ argument_expr self.old }
     {
         match self {
             ArgumentP::Positional(x) => x,
