@@ -2,9 +2,9 @@
 
 ghost use Rattle.std.specs.Prelude.{◌≡◌};
 ghost use Rattle.std.specs.Borrow.{sem};
-ghost use Rattle.std.specs.Option.{option_copied};
+ghost use Rattle.std.specs.Option.{option_copied, option_copied_mut};
 ghost use Rattle.starlark_ast.specs.Access.{argument_expr, argument_name, def_signature, lambda_signature, load_arg_span, load_arg_whole_span, merged_with, parameter_default, parameter_ident, parameter_type, unboxed};
-ghost use Rattle.starlark_ast.specs.Lending.{LendsExpr};
+ghost use Rattle.starlark_ast.specs.Lending.{LendsDefault, LendsExpr, LendsHeld, LendsType};
 
 use crate::ast::{
     ArgumentP, AstAssignIdentP, AstExprP, AstPayload, AstTypeExprP, DefP, LambdaP, LoadArgP,
@@ -85,6 +85,34 @@ impl<P: AstPayload> ParameterP<P> {
             ParameterP::KwArgs(name, _) => Some(name),
         }
     }
+
+    /// The type of a parameter that has one, for writing.
+    pub fn type_mut(&mut self) -> Option<&mut AstTypeExprP<P>>
+        ensures* writes_back { sem 𝓛 (LendsType P.row P.LoadPayload.row P.IdentPayload.row P.IdentAssignPayload.row P.DefPayload.row P.TypeExprPayload.row self.entry result) }
+        ensures value { option_copied_mut result ≡ parameter_type self.old }
+    {
+        match self {
+            ParameterP::Slash => None,
+            ParameterP::Normal(_, ty, _) => lent_mut(ty),
+            ParameterP::NoArgs => None,
+            ParameterP::Args(_, ty) => lent_mut(ty),
+            ParameterP::KwArgs(_, ty) => lent_mut(ty),
+        }
+    }
+
+    /// The default of a parameter that has one, for writing.
+    pub fn default_mut(&mut self) -> Option<&mut AstExprP<P>>
+        ensures* writes_back { sem 𝓛 (LendsDefault P.row P.LoadPayload.row P.IdentPayload.row P.IdentAssignPayload.row P.DefPayload.row P.TypeExprPayload.row self.entry result) }
+        ensures value { option_copied_mut result ≡ parameter_default self.old }
+    {
+        match self {
+            ParameterP::Slash => None,
+            ParameterP::Normal(_, _, default) => lent_mut(default),
+            ParameterP::NoArgs => None,
+            ParameterP::Args(_, _) => None,
+            ParameterP::KwArgs(_, _) => None,
+        }
+    }
 }
 
 // what a box holds, where there is one
@@ -94,6 +122,17 @@ fn lent<T>(x: &Option<Box<T>>) -> Option<&T>
     match x {
         None => None,
         Some(x) => Some(x),
+    }
+}
+
+// the same, for writing
+fn lent_mut<T>(x: &mut Option<Box<T>>) -> Option<&mut T>
+    ensures* writes_back { sem 𝓛 (LendsHeld T.row x.entry result) }
+    ensures value { option_copied_mut result ≡ unboxed x.old }
+{
+    match x {
+        None => None,
+        Some(x) => Some(&mut **x),
     }
 }
 
