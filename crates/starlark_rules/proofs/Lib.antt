@@ -5,3 +5,4 @@ pub mod Prefixes
 pub mod Converting
 pub mod Sizes
 pub mod Within
+pub mod Unpacking

@@ -9,3 +9,4 @@ pub mod View
 pub mod Assignable
 pub mod Found
 pub mod Standings
+pub mod Unpacked

@@ -1,6 +1,7 @@
 //! What breaks which rule, and where.
 #![tactic(auto)]
 
+pub mod arguments;
 pub mod assign;
 pub mod call;
 pub mod def;

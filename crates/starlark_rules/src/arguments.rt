@@ -1,0 +1,165 @@
+//! The arguments of a call, by their kinds.
+
+ghost use Rattle.std.specs.Prelude.{◌≡◌, ◌<◌, ◌-◌, None, IfOk, IfErr, count_by, if◌then◌else◌};
+ghost use Rattle.starlark_ast.specs.View.{argument_at, call_args_view, members};
+ghost use Rattle.starlark_rules.specs.Calls as calls;
+ghost use Rattle.starlark_rules.specs.Unpacked as unpacked;
+ghost use Rattle.starlark_rules.specs.Unpacked.{AreByKind, Unpacks, lent_expr};
+ghost use Rattle.starlark_rules.specs.View.{IsPlaced, RefusesFor};
+
+use crate::call::call_fault;
+use crate::rule::{RuleException, refused};
+use starlark_ast::ast::{ArgumentP, AstArgumentP, AstExprP, AstPayload, CallArgsP};
+use starlark_place::codemap::CodeMap;
+use std::alloc::Global;
+
+/// The arguments of a call, by their kinds.
+#[derive(Debug, Drop)]
+pub struct CallArgsUnpack<'a, P: AstPayload> {
+    /// The positional ones.
+    pub pos: &'a [AstArgumentP<P>],
+    /// The named ones.
+    pub named: &'a [AstArgumentP<P>],
+    /// What stands behind `*`.
+    pub star: Option<&'a AstExprP<P>>,
+    /// What stands behind `**`.
+    pub star_star: Option<&'a AstExprP<P>>,
+}
+
+impl<'a, P: AstPayload> CallArgsUnpack<'a, P> {
+    /// The arguments by their kinds, lent from the call. They are refused with the first rule that they break, and with
+    /// `Memory` where the refusal cannot be made. The place of what breaks the rule is to lie in the source:
+    /// `CodeMap::holds` tells. The rules stand in docs/LANGUAGE.md, Rules.
+    pub fn unpack(
+        alloc: Global,
+        args: &'a CallArgsP<P>,
+        codemap: &CodeMap,
+    ) -> Result<CallArgsUnpack<'a, P>, RuleException>
+        requires { IsPlaced codemap.now.source (calls.first_call_fault (call_args_view args.now)) }
+        ensures clean { IfOk result (λ u. calls.first_call_fault (call_args_view args.now) ≡ None) }
+        ensures taken { IfOk result (λ u. Unpacks args.now u) }
+        ensures refused { IfErr result (RefusesFor (calls.first_call_fault (call_args_view args.now)) codemap.now) }
+    {
+        if let Some(found) = call_fault(&args.args) {
+            return Err(refused(alloc, found, codemap));
+        }
+        Ok(by_kind(&args.args))
+    }
+}
+
+/// The arguments, which break no rule, by their kinds.
+fn by_kind<'a, P: AstPayload>(args: &'a [AstArgumentP<P>]) -> CallArgsUnpack<'a, P>
+    requires { calls.first_call_fault (members argument_at args.now) ≡ None }
+    ensures { AreByKind args.now result }
+{
+    let (pos, others) = args.split_at(positional_count(args));
+    let (named, _) = others.split_at(named_count(args));
+    CallArgsUnpack {
+        pos,
+        named,
+        star: star(args),
+        star_star: star_star(args),
+    }
+}
+
+/// How many are positional: all but the others.
+fn positional_count<P: AstPayload>(args: &[AstArgumentP<P>]) -> usize
+    ensures { result ≡ count_by (λ x. unpacked.is_positional (argument_at x)) args.now }
+{
+    let mut count = args.len();
+    for x in args {
+        count = less_if(count, !is_positional(x));
+    }
+    count
+}
+
+/// How many are named: all but the others.
+fn named_count<P: AstPayload>(args: &[AstArgumentP<P>]) -> usize
+    ensures { result ≡ count_by (λ x. unpacked.is_named (argument_at x)) args.now }
+{
+    let mut count = args.len();
+    for x in args {
+        count = less_if(count, !is_named(x));
+    }
+    count
+}
+
+/// One less, where it is to be.
+fn less_if(count: usize, less: bool) -> usize
+    requires { 0 < count }
+    ensures { result ≡ count - (if less then 1 else 0) }
+{
+    if less { count - 1 } else { count }
+}
+
+/// Whether the argument is positional.
+fn is_positional<P: AstPayload>(x: &AstArgumentP<P>) -> bool
+    ensures { result ≡ unpacked.is_positional (argument_at x.now) }
+{
+    match &x.node {
+        ArgumentP::Positional(_) => true,
+        ArgumentP::Named(_, _) => false,
+        ArgumentP::Args(_) => false,
+        ArgumentP::KwArgs(_) => false,
+    }
+}
+
+/// Whether the argument is named.
+fn is_named<P: AstPayload>(x: &AstArgumentP<P>) -> bool
+    ensures { result ≡ unpacked.is_named (argument_at x.now) }
+{
+    match &x.node {
+        ArgumentP::Positional(_) => false,
+        ArgumentP::Named(_, _) => true,
+        ArgumentP::Args(_) => false,
+        ArgumentP::KwArgs(_) => false,
+    }
+}
+
+/// What stands behind the first `*`.
+fn star<P: AstPayload>(args: &[AstArgumentP<P>]) -> Option<&AstExprP<P>>
+    ensures { lent_expr result ≡ unpacked.first_in unpacked.starred (members argument_at args.now) }
+{
+    for x in args {
+        if let Some(found) = starred(x) {
+            return Some(found);
+        }
+    }
+    None
+}
+
+/// What stands behind the first `**`.
+fn star_star<P: AstPayload>(args: &[AstArgumentP<P>]) -> Option<&AstExprP<P>>
+    ensures { lent_expr result ≡ unpacked.first_in unpacked.double_starred (members argument_at args.now) }
+{
+    for x in args {
+        if let Some(found) = double_starred(x) {
+            return Some(found);
+        }
+    }
+    None
+}
+
+/// What stands behind its `*`.
+fn starred<P: AstPayload>(x: &AstArgumentP<P>) -> Option<&AstExprP<P>>
+    ensures { lent_expr result ≡ unpacked.starred (argument_at x.now) }
+{
+    match &x.node {
+        ArgumentP::Positional(_) => None,
+        ArgumentP::Named(_, _) => None,
+        ArgumentP::Args(inner) => Some(inner),
+        ArgumentP::KwArgs(_) => None,
+    }
+}
+
+/// What stands behind its `**`.
+fn double_starred<P: AstPayload>(x: &AstArgumentP<P>) -> Option<&AstExprP<P>>
+    ensures { lent_expr result ≡ unpacked.double_starred (argument_at x.now) }
+{
+    match &x.node {
+        ArgumentP::Positional(_) => None,
+        ArgumentP::Named(_, _) => None,
+        ArgumentP::Args(_) => None,
+        ArgumentP::KwArgs(inner) => Some(inner),
+    }
+}
