@@ -10,3 +10,4 @@ pub mod Assignable
 pub mod Found
 pub mod Standings
 pub mod Unpacked
+pub mod Named
