@@ -23,3 +23,5 @@ mod spans;
 mod strings;
 #[cfg(test)]
 mod tokens;
+#[cfg(test)]
+mod trees;
