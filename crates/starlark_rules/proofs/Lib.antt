@@ -6,3 +6,4 @@ pub mod Converting
 pub mod Sizes
 pub mod Within
 pub mod Unpacking
+pub mod ParameterLists

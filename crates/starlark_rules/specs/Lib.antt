@@ -11,3 +11,4 @@ pub mod Found
 pub mod Standings
 pub mod Unpacked
 pub mod Named
+pub mod Tallies

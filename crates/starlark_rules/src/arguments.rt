@@ -85,7 +85,7 @@ fn named_count<P: AstPayload>(args: &[AstArgumentP<P>]) -> usize
 }
 
 /// One less, where it is to be.
-fn less_if(count: usize, less: bool) -> usize
+pub(crate) fn less_if(count: usize, less: bool) -> usize
     requires { 0 < count }
     ensures { result ≡ count - (if less then 1 else 0) }
 {
