@@ -3,8 +3,8 @@
 
 mod access;
 pub mod ast;
-mod leaves;
 mod leaf;
+mod leaves;
 pub mod making;
 pub mod nodes;
 pub mod visit;
