@@ -18,6 +18,8 @@ mod maps;
 #[cfg(test)]
 mod numbers;
 #[cfg(test)]
+mod rules;
+#[cfg(test)]
 mod spans;
 #[cfg(test)]
 mod strings;
