@@ -35,3 +35,16 @@ pub mod Examples
 mod ExamplesOfExpressions
 mod ExamplesOfStatements
 mod ExamplesOfRules
+pub mod Plain
+pub mod Exits
+pub mod Gathering
+pub mod Listing
+pub mod Naming
+pub mod Quoting
+pub mod Doubling
+pub mod Suffixing
+pub mod Arguing
+pub mod Subscripting
+pub mod Operating
+pub mod Beginning
+pub mod Typing

@@ -18,3 +18,7 @@ pub mod Language
 pub mod Longer
 pub mod Nested
 pub mod Spans
+pub mod Kinds
+pub mod Reads
+pub mod Made
+pub mod Gathered
