@@ -1,22 +1,20 @@
 -- Arguments of calls.
-use Rattle.std.proofs.Common.{ℕ, ◌≡◌, ◌≢◌, List, [], ◌∷◌, ◌++◌, Option, Some, None, Bool, true, false, zero, suc, nat_eq, cond, ◌≤◌, refl, ap, sym, subst, ◌∙◌, fold}
-use Rattle.std.proofs.lemmas.List.Sums.{fold_push}
+use Rattle.std.proofs.Common.{ℕ, ◌≡◌, ◌≢◌, List, ◌∷◌, Option, Some, None, Bool, true, false, zero, suc, cond, ◌≤◌, refl, ap, sym, subst, ◌∙◌}
 use Rattle.starlark_place.specs.Place.{Extent}
-use Rattle.starlark_lexer.specs.Items.{Lexeme, Item, item, identifier, comma, equal, keyword_for, star, star_star, closing_round}
+use Rattle.starlark_lexer.specs.Items.{Lexeme, Item, item, identifier, comma, equal, star, star_star, closing_round}
 use Rattle.starlark_lexer.specs.declared.dialect.Dialect.{Dialect}
 use Rattle.starlark_ast.specs.Tree as tree
-use Rattle.starlark_ast.specs.View.{members}
 use Rattle.starlark_parser.specs.Events.{Event}
 use Rattle.starlark_parser.specs.Nodes.{leaf_at, start}
 use Rattle.starlark_parser.specs.Spans.{stretch}
 use Rattle.starlark_parser.specs.Sorts.{name_of}
 use Rattle.starlark_parser.specs.Tables.{suffix}
-use Rattle.starlark_parser.specs.Points.{Place, behind, Part, an_argument, a_kwargs, member, member_of, member_wanted, member_read, first_at}
+use Rattle.starlark_parser.specs.Points.{Place, behind, an_argument, a_kwargs, member, member_wanted, member_read, first_at}
 use Rattle.starlark_parser.specs.Frames.{Frames, inside, tail, State, wants, has, stands, perhaps_named}
-use Rattle.starlark_parser.specs.Machine.{tails, else_state, goes_on, feed, step, move}
-use Rattle.starlark_parser.specs.Runs.{ends, operates, run}
+use Rattle.starlark_parser.specs.Machine.{tails, step, move}
+use Rattle.starlark_parser.specs.Runs.{ends, operates}
 use Rattle.starlark_parser.specs.Reads.{Left, first_lexeme, name_ahead, Passes, Goes, Sticks}
-use Rattle.starlark_parser.proofs.Steps.{at_token, same}
+use Rattle.starlark_parser.proofs.Steps.{at_token}
 use Rattle.starlark_parser.proofs.Suffixing.{in_order}
 use Rattle.starlark_parser.proofs.Exits.{goes, runs_as, state_is, tokens_are, stays_there, not_next, stops}
 

@@ -1,5 +1,5 @@
 -- How expressions begin.
-use Rattle.std.proofs.Common.{ℕ, ◌+◌, ◌-◌, ◌<◌, ◌≤◌, ◌≡◌, ◌≢◌, ◌⊎◌, inl, inr, zero, suc, List, [], ◌∷◌, Option, Some, None, MatchOption, Bool, true, false, nat_eq, cond, refl, ap, sym, subst, ◌∙◌, arith, add-zero}
+use Rattle.std.proofs.Common.{ℕ, ◌+◌, ◌<◌, ◌≡◌, ◌≢◌, ◌⊎◌, inl, inr, zero, suc, List, [], ◌∷◌, Option, Some, None, MatchOption, true, false, nat_eq, cond, refl, ap, sym, subst, ◌∙◌, arith, add-zero}
 use Rattle.starlark_lexer.specs.Items.{Lexeme, Item, item, keyword_lambda}
 use Rattle.starlark_lexer.specs.declared.dialect.Dialect.{Dialect}
 use Rattle.starlark_ast.specs.Tree as tree
@@ -7,12 +7,11 @@ use Rattle.starlark_parser.specs.Nodes.{start}
 use Rattle.starlark_parser.specs.Tables.{Beginning, leaf, bracket, quoted, signed, lambda, beginning, begins_at, sign_level}
 use Rattle.starlark_parser.specs.Points.{before_body, body, behind_sign, member_wanted}
 use Rattle.starlark_parser.specs.Spans.{stretch}
-use Rattle.starlark_parser.specs.Frames.{Frames, State, inside, tail, wants, has, stands}
-use Rattle.starlark_parser.specs.Machine.{tails, begun, begin, begin_with, step, move}
-use Rattle.starlark_parser.specs.Runs.{run}
+use Rattle.starlark_parser.specs.Frames.{Frames, inside, tail, wants, has, stands}
+use Rattle.starlark_parser.specs.Machine.{tails, begun, begin, begin_with, step}
 use Rattle.starlark_parser.specs.Reads.{Left, first_lexeme, begins_ahead, begins_by, sign_ahead, sign_in, Passes, Goes}
 use Rattle.starlark_parser.proofs.Steps.{at_token, same}
-use Rattle.starlark_parser.proofs.Exits.{runs_as, tokens_are, not_next, goes}
+use Rattle.starlark_parser.proofs.Exits.{runs_as, goes}
 
 pub tails_end : (c n : ℕ) (k : Frames) → tails c n (tail (n + c) k) ≡ tails (suc c) n k
 tails_end zero n k = rw (add-zero n)

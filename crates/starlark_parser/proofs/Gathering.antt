@@ -1,5 +1,5 @@
 -- Steps of the machine between brackets.
-use Rattle.std.proofs.Common.{◌≡◌, ◌≢◌, ◌⊎◌, inl, inr, ℕ, List, [], ◌∷◌, ◌++◌, Option, Some, None, Bool, true, false, not, nat_eq, cond, MatchOption, refl, ap, sym, subst, ◌∙◌, fold, length}
+use Rattle.std.proofs.Common.{◌≡◌, ◌≢◌, ◌⊎◌, inl, inr, ℕ, List, [], ◌∷◌, ◌++◌, Option, Some, None, Bool, true, false, nat_eq, cond, MatchOption, refl, ap, sym, subst, ◌∙◌, fold}
 use Rattle.std.specs.Bool.{MatchBool}
 use Rattle.starlark_place.specs.Place.{Extent}
 use Rattle.starlark_lexer.specs.Items.{Lexeme, Item, item, lexeme_of, identifier, integer, float, string, bytes, ellipsis, fstring_start, opening_round, opening_square, opening_curly, closing_round, closing_square, closing_curly, comma, colon, keyword_for}
@@ -10,7 +10,7 @@ use Rattle.starlark_ast.specs.View.{members}
 use Rattle.starlark_parser.specs.Spans.{stretch}
 use Rattle.starlark_parser.specs.Nodes.{start, leaf_at}
 use Rattle.starlark_parser.specs.Sorts.{sort}
-use Rattle.starlark_parser.specs.Tables.{Bracket, round, square, curly, closing_bracket, kind_in, tests, enclosed, Beginning, leaf, beginning}
+use Rattle.starlark_parser.specs.Tables.{Bracket, round, square, curly, closing_bracket, kind_in, tests, enclosed, leaf, beginning}
 use Rattle.starlark_parser.specs.Points.{Place, brackets, close_of, Part, an_item, member_of, Frame, member, key, Point, member_wanted, member_read, key_read, Outcome, on, first_at, clause_behind}
 use Rattle.starlark_parser.specs.Frames.{Frames, tail, inside, State, wants, has, stands}
 use Rattle.starlark_parser.specs.Machine.{goes as to, begin_with, else_state, move, step}

@@ -15,15 +15,15 @@ use Rattle.starlark_parser.specs.Made.{clauses_of}
 use Rattle.starlark_parser.specs.Nodes.{start}
 use Rattle.starlark_parser.specs.Spans.{stretch}
 use Rattle.starlark_parser.specs.Tables.{Bracket, round, square, curly, closing_bracket, level_of}
-use Rattle.starlark_parser.specs.Points.{targets_in, an_item, member, over, filter, Frame, member_wanted, member_read, clauses_read, Outcome, on}
-use Rattle.starlark_parser.specs.Frames.{Lists, Frames, inside, listed, State, wants, has, stands, wants_list, wants_next}
-use Rattle.starlark_parser.specs.Machine.{goes as to, accept_list, begin_with, feed, else_state, step}
-use Rattle.starlark_parser.specs.Runs.{Stuck, ends, met, note, run}
+use Rattle.starlark_parser.specs.Points.{targets_in, an_item, member, over, filter, member_wanted, clauses_read}
+use Rattle.starlark_parser.specs.Frames.{Frames, inside, listed, State, wants, has, stands, wants_next}
+use Rattle.starlark_parser.specs.Machine.{goes as to, feed, else_state, step}
+use Rattle.starlark_parser.specs.Runs.{Stuck, ends, run}
 use Rattle.starlark_parser.specs.Verdicts.{Broken, answer, begins_test, judge}
 use Rattle.starlark_parser.specs.Reads.{Left, first_lexeme, Passes, Goes, Sticks, Answers, Comes, Unbracketed, in_statement, in_clause, kind_within, one_of, wants_first}
 use Rattle.starlark_parser.proofs.Steps.{arrive, runs, runs_end, at_token, same}
 use Rattle.starlark_parser.proofs.Exits.{begins, goes, broken, runs_as, same_end, seen_as, state_is, stops, not_next}
-use Rattle.starlark_parser.proofs.Gathering.{both_none, other, or_none, opens_there, fold_push, plain_closing}
+use Rattle.starlark_parser.proofs.Gathering.{both_none, other, or_none, fold_push, plain_closing}
 
 -- the first member may come
 pub list_begins : {d : Dialect} (k : Unbracketed) (n : ℕ) (ts : Left) → level_of (kind_within k) ≡ n → Goes d (wants_first k) ts (wants n (one_of k tree.none (start ts.items))) ts

@@ -1,21 +1,21 @@
 -- Steps of the machine among the parameters of a lambda.
-use Rattle.std.proofs.Common.{◌≡◌, ◌≢◌, ℕ, [], ◌∷◌, List, Option, Some, None, MatchOption, string_bytes, Bool, true, refl, ap, sym, subst, ◌∙◌}
+use Rattle.std.proofs.Common.{◌≡◌, ◌≢◌, ℕ, ◌∷◌, List, Option, Some, None, MatchOption, string_bytes, Bool, refl, ap, sym, subst, ◌∙◌}
 use Rattle.std.specs.declared.string.String.{String}
 use Rattle.starlark_place.specs.Place.{Extent}
 use Rattle.starlark_place.specs.declared.pos.Spanned.{Spanned}
-use Rattle.starlark_lexer.specs.Items.{Lexeme, Item, item, identifier, colon, comma, equal, slash, star, star_star, keyword_for}
+use Rattle.starlark_lexer.specs.Items.{Item, item, identifier, colon, equal, slash, star, star_star}
 use Rattle.starlark_lexer.specs.declared.dialect.Dialect.{Dialect}
 use Rattle.starlark_ast.specs.Tree as tree
 use Rattle.starlark_parser.specs.Nodes.{start}
 use Rattle.starlark_parser.specs.Sorts.{name_of}
 use Rattle.starlark_parser.specs.Spans.{stretch}
-use Rattle.starlark_parser.specs.Points.{before_body, a_parameter, body, member, member_wanted, member_read, star_read, stars_read, name_read, Outcome, reach, on_some, first_at, behind_member}
-use Rattle.starlark_parser.specs.Frames.{Frames, inside, State, has, stands, wants}
-use Rattle.starlark_parser.specs.Machine.{goes as to, else_state, step}
+use Rattle.starlark_parser.specs.Points.{before_body, a_parameter, body, member, member_wanted, member_read, star_read, stars_read, name_read, Outcome, on_some, first_at}
+use Rattle.starlark_parser.specs.Frames.{Frames, inside, State, stands, wants}
+use Rattle.starlark_parser.specs.Machine.{goes as to, else_state}
 use Rattle.starlark_parser.specs.Reads.{Left, first_lexeme, name_ahead, Passes, Goes, Sticks}
 use Rattle.starlark_parser.proofs.Steps.{at_token}
 use Rattle.starlark_parser.proofs.Exits.{goes, runs_as, state_is, stops, not_next}
-use Rattle.starlark_parser.proofs.Gathering.{both_none, other, member_as}
+use Rattle.starlark_parser.proofs.Gathering.{other, member_as}
 
 pub slash_read : {d : Dialect} (b : ℕ) (ms : tree.Members) (t : Bool) (e f : ℕ) (k : Frames) (ts us : Left) → Passes ts (item (start ts.items) slash us.last) us → Goes d (stands (member_wanted (before_body b) ms t e f) k) ts (stands (member_read (before_body b) (tree.more ms (tree.slash (stretch (start ts.items) us.last))) us.last (first_at ms f (start ts.items))) k) us
 slash_read b ms t e f k ts us p = goes p refl refl

@@ -1,17 +1,15 @@
 -- The places of a tree lie in one another, over tokens in order and in texts.
-use Rattle.std.proofs.Common.{ℕ, ◌≡◌, ◌≤◌, ◌∷◌, [], List, Option, Some, None, Bool, true, false, cond, refl, sym, subst, arith, length}
-use Rattle.starlark_place.specs.Place.{Extent}
+use Rattle.std.proofs.Common.{ℕ, ◌≤◌, ◌∷◌, [], List, Option, Some, None, Bool, true, false, cond, arith, length}
 use Rattle.starlark_parser.specs.Spans.{stretch}
 use Rattle.starlark_lexer.specs.Items.{Item, Stop, Lexed}
 use Rattle.starlark_lexer.specs.Order.{InOrder}
 use Rattle.starlark_lexer.specs.Lex.{Lex, start}
 use Rattle.starlark_lexer.specs.declared.dialect.Dialect.{Dialect}
-use Rattle.starlark_ast.specs.Tree as t
-use Rattle.starlark_ast.specs.Tree.{Expr, Member, Members, Bound, Annotation, Subscript, Clause, Clauses, Statement, Sequence, place, statement_place}
+use Rattle.starlark_ast.specs.Tree.{Statement}
 use Rattle.starlark_parser.specs.Language.{is_comment, without_comments, Language, last_end}
 use Rattle.starlark_parser.specs.Grammar.{Derives}
 use Rattle.starlark_parser.specs.Longer.{InOrder as IsOrder}
-use Rattle.starlark_parser.specs.Nested.{Lies, Inner, ExprIn, MemberIn, MembersIn, BoundIn, AnnotationIn, SubscriptIn, ClauseIn, ClausesIn, SomeIn, StatementIn, InnerStatement, SequenceIn}
+use Rattle.starlark_parser.specs.Nested.{StatementIn}
 use Rattle.starlark_parser.proofs.Ranges.{Limits, Laid, no_tokens, a_token}
 use Rattle.starlark_parser.proofs.NotLonger.{limits, laid_behind}
 use Rattle.starlark_parser.proofs.NestedStatements.{derived_in}

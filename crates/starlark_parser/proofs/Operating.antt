@@ -1,5 +1,5 @@
 -- Operators between expressions, and signs before them.
-use Rattle.std.proofs.Common.{ℕ, ◌+◌, ◌-◌, ◌<◌, ◌≤◌, ◌≡◌, ◌≢◌, zero, suc, List, [], ◌∷◌, Option, Some, None, MatchOption, Bool, true, false, nat_eq, cond, refl, ap, sym, subst, ◌∙◌, arith}
+use Rattle.std.proofs.Common.{ℕ, ◌+◌, ◌<◌, ◌≤◌, ◌≡◌, ◌≢◌, suc, List, [], ◌∷◌, Option, Some, None, MatchOption, Bool, true, false, nat_eq, cond, refl, ap, sym, subst, ◌∙◌, arith}
 use Rattle.starlark_lexer.specs.Items.{Lexeme, Item, item, keyword_if, keyword_in, keyword_not, keyword_else}
 use Rattle.starlark_lexer.specs.declared.dialect.Dialect.{Dialect}
 use Rattle.starlark_ast.specs.declared.ast.BinOp.{BinOp}
@@ -7,14 +7,14 @@ use Rattle.starlark_ast.specs.declared.ast.BinOp.TheVariants as op
 use Rattle.starlark_ast.specs.Tree as tree
 use Rattle.starlark_parser.specs.Nodes.{from, operated}
 use Rattle.starlark_parser.specs.Spans.{stretch}
-use Rattle.starlark_parser.specs.Tables.{Suffix, dotted, indexed, called, joined, negated, chosen, suffix, below, grade, grade_of, associates}
-use Rattle.starlark_parser.specs.Points.{operand, condition, otherwise, condition_read, not_read, behind_sign, body}
-use Rattle.starlark_parser.specs.Frames.{Frames, State, inside, tail, wants, has, stands}
+use Rattle.starlark_parser.specs.Tables.{Suffix, dotted, indexed, called, joined, negated, chosen, suffix, below, grade_of, associates}
+use Rattle.starlark_parser.specs.Points.{operand, condition, otherwise, not_read, behind_sign}
+use Rattle.starlark_parser.specs.Frames.{Frames, inside, tail, wants, has, stands}
 use Rattle.starlark_parser.specs.Machine.{tails, enter, goes_on, feed, step, move}
-use Rattle.starlark_parser.specs.Runs.{ends, operates, met, run}
+use Rattle.starlark_parser.specs.Runs.{ends, operates, met}
 use Rattle.starlark_parser.specs.Reads.{Left, first_lexeme, grade_ahead, operator_of, operator_ahead, Passes, Goes, Sticks}
-use Rattle.starlark_parser.proofs.Steps.{at_token, same}
-use Rattle.starlark_parser.proofs.Exits.{◌>>◌, sticks, runs_as, state_is, tokens_are, stays_there, not_next, stops, goes}
+use Rattle.starlark_parser.proofs.Steps.{same}
+use Rattle.starlark_parser.proofs.Exits.{◌>>◌, sticks, runs_as, stays_there, not_next, stops, goes}
 
 -- what goes on behind an operation of a level
 abbrev pub rest_of : ℕ → Frames → Frames

@@ -1,5 +1,5 @@
 -- The kinds of tokens without payload.
-use Rattle.std.proofs.Common.{◌≡◌, ◌≢◌, List, [], ◌∷◌, Option, Some, None, Bool, true, false, refl, ap, sym, ◌∙◌}
+use Rattle.std.proofs.Common.{◌≡◌, ◌≢◌, List, [], ◌∷◌, Some, None, Bool, true, false, refl, ap, sym, ◌∙◌}
 use Rattle.std.specs.Bool.{MatchBool}
 use Rattle.starlark_lexer.specs.Items.{Lexeme, Item, comment, identifier, integer, float, string, bytes, fstring_start, fstring_text}
 use Rattle.starlark_parser.specs.declared.kind.Kind.{Kind}

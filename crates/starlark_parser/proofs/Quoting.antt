@@ -1,25 +1,23 @@
 -- Steps of the machine in f-strings.
-use Rattle.std.proofs.Common.{◌≡◌, ◌≢◌, ℕ, List, [], ◌∷◌, ◌++◌, Option, Some, None, Bool, true, false, not, cond, Bor, MatchOption, refl, ap, sym, subst, ◌∙◌, length}
+use Rattle.std.proofs.Common.{◌≡◌, ◌≢◌, ℕ, List, [], ◌∷◌, ◌++◌, Option, Some, None, true, false, not, cond, Bor, MatchOption, refl, ap, sym, subst, ◌∙◌, length}
 use Rattle.starlark_place.specs.Place.{Extent}
-use Rattle.starlark_lexer.specs.Items.{Lexeme, Item, item, lexeme_of, fstring_start, fstring_text, fstring_expr_start, fstring_bang, fstring_expr_end, fstring_end}
+use Rattle.starlark_lexer.specs.Items.{Lexeme, Item, item, fstring_start, fstring_text, fstring_expr_start, fstring_bang, fstring_expr_end, fstring_end}
 use Rattle.starlark_lexer.specs.declared.dialect.Dialect.{Dialect}
-use Rattle.starlark_lexer.specs.declared.token.Token.{Token}
 use Rattle.starlark_ast.specs.Tree as tree
 use Rattle.starlark_rules.specs.Rules.{FStringConversion, breaks}
 use Rattle.starlark_parser.specs.Events.{shaped, after_bang, conversion_end}
 use Rattle.starlark_parser.specs.Nodes.{start}
 use Rattle.starlark_parser.specs.Sorts.{is_some, name_of, text_of}
 use Rattle.starlark_parser.specs.Spans.{stretch}
-use Rattle.starlark_parser.specs.Tables.{beginning, conversion, doubled, field_format}
-use Rattle.starlark_parser.specs.Points.{field, piece_wanted, field_read, letter_wanted, letter_read, Outcome, reach, on_some}
+use Rattle.starlark_parser.specs.Tables.{conversion, doubled, field_format}
+use Rattle.starlark_parser.specs.Points.{field, piece_wanted, letter_wanted, letter_read, Outcome, reach, on_some}
 use Rattle.starlark_parser.specs.Frames.{Frames, tail, inside, State, has, stands, wants}
-use Rattle.starlark_parser.specs.Machine.{goes as to, else_state, move, step}
+use Rattle.starlark_parser.specs.Machine.{goes as to, else_state, move}
 use Rattle.starlark_parser.specs.Verdicts.{Broken, converts, some_converts}
 use Rattle.starlark_parser.specs.Reads.{Left, first_lexeme, Passes, Goes, Sticks, Answers}
 use Rattle.starlark_parser.specs.Gathered.{is_quoted, quoted_ahead, text_ahead, converted, conversion_ahead}
-use Rattle.starlark_parser.proofs.Steps.{same}
-use Rattle.starlark_parser.proofs.Exits.{goes, goes_past, broken, runs_as, state_is, stops, not_next}
-use Rattle.starlark_parser.proofs.Gathering.{other, or_none}
+use Rattle.starlark_parser.proofs.Exits.{goes, goes_past, broken, state_is, stops, not_next}
+use Rattle.starlark_parser.proofs.Gathering.{other}
 
 -- it begins
 pub quoted : {d : Dialect} (k : Frames) (y : Lexeme) (ts us : Left) → quoted_ahead ts.items ≡ true → Passes ts (item (start ts.items) y us.last) us → Goes d (wants 0 k) ts (stands (piece_wanted (start ts.items) [] tree.none) (tail 0 k)) us

@@ -1,17 +1,17 @@
 -- Subscripts.
-use Rattle.std.proofs.Common.{ℕ, ◌≡◌, ◌≢◌, ◌⊎◌, inl, inr, List, [], ◌∷◌, Option, Some, None, MatchOption, refl, ap, sym, subst, ◌∙◌}
+use Rattle.std.proofs.Common.{ℕ, ◌≡◌, ◌≢◌, ◌⊎◌, inl, inr, List, Option, Some, None, MatchOption, refl, ap, sym, subst, ◌∙◌}
 use Rattle.std.specs.Bool.{⊤}
 use Rattle.starlark_lexer.specs.Items.{Lexeme, Item, item, colon, comma, closing_square}
 use Rattle.starlark_lexer.specs.declared.dialect.Dialect.{Dialect}
 use Rattle.starlark_ast.specs.Tree as tree
 use Rattle.starlark_parser.specs.Made.{bound_of}
 use Rattle.starlark_parser.specs.Nodes.{from}
-use Rattle.starlark_parser.specs.Points.{Bounds, at_first, at_second, at_third, bound, bound_wanted, second, second_read}
+use Rattle.starlark_parser.specs.Points.{Bounds, at_first, at_second, at_third, bound, bound_wanted, second}
 use Rattle.starlark_parser.specs.Frames.{Frames, inside, wants, has, stands}
-use Rattle.starlark_parser.specs.Machine.{step, move}
+use Rattle.starlark_parser.specs.Machine.{move}
 use Rattle.starlark_parser.specs.Reads.{Left, first_lexeme, bound_at, Passes, Goes, Sticks}
 use Rattle.starlark_parser.proofs.Steps.{at_token}
-use Rattle.starlark_parser.proofs.Exits.{runs_as, tokens_are, stays_there, not_next, stops, goes}
+use Rattle.starlark_parser.proofs.Exits.{runs_as, tokens_are, not_next, stops, goes}
 
 -- a bound is an expression
 pub bound_opens : {d : Dialect} (q : tree.Expr) (bs : Bounds) (k : Frames) (ts : Left) → first_lexeme ts.items ≢ Some colon → first_lexeme ts.items ≢ Some closing_square → Goes d (stands (bound_wanted q bs) k) ts (wants 12 (inside (bound q bs) k)) ts

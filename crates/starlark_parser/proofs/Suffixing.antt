@@ -1,19 +1,19 @@
 -- Suffixes and operators behind an expression.
-use Rattle.std.proofs.Common.{ℕ, ◌+◌, ◌-◌, ◌<◌, ◌≤◌, ◌≡◌, ◌≢◌, ◌⊎◌, inl, inr, zero, suc, List, [], ◌∷◌, Option, Some, None, MatchOption, max, Bool, true, false, nat_eq, cond, refl, ap, sym, subst, ◌∙◌, arith}
+use Rattle.std.proofs.Common.{ℕ, ◌+◌, ◌<◌, ◌≤◌, ◌≡◌, ◌≢◌, ◌⊎◌, inl, inr, zero, suc, List, [], ◌∷◌, Option, Some, None, MatchOption, max, Bool, true, false, nat_eq, refl, ap, sym, subst, ◌∙◌, arith}
 use Rattle.starlark_place.specs.Place.{Extent, extent}
-use Rattle.starlark_lexer.specs.Items.{Lexeme, Item, dot, keyword_if, keyword_not, opening_round, opening_square}
+use Rattle.starlark_lexer.specs.Items.{Lexeme, Item, dot, opening_round, opening_square}
 use Rattle.starlark_lexer.specs.declared.dialect.Dialect.{Dialect}
 use Rattle.starlark_ast.specs.Tree as tree
 use Rattle.starlark_parser.specs.Nodes.{from}
 use Rattle.starlark_parser.specs.Spans.{stretch}
 use Rattle.starlark_parser.specs.Tables.{suffix, grade_of}
 use Rattle.starlark_parser.specs.Points.{attribute_wanted, made, on_some}
-use Rattle.starlark_parser.specs.Frames.{Frames, State, has, stands, tail}
+use Rattle.starlark_parser.specs.Frames.{Frames, has, stands, tail}
 use Rattle.starlark_parser.specs.Machine.{tails, goes, else_state}
 use Rattle.starlark_parser.specs.Runs.{run}
-use Rattle.starlark_parser.specs.Reads.{Left, first_lexeme, grade_ahead, name_ahead, Goes, Sticks}
+use Rattle.starlark_parser.specs.Reads.{Left, first_lexeme, grade_ahead, name_ahead, Sticks}
 use Rattle.starlark_parser.proofs.Steps.{first_grade, past}
-use Rattle.starlark_parser.proofs.Exits.{runs_as, stays_there, stops}
+use Rattle.starlark_parser.proofs.Exits.{stays_there, stops}
 
 -- the same tokens
 pub unlike : {ts us : Left} {o : Option Lexeme} → us ≡ ts → first_lexeme ts.items ≢ o → first_lexeme us.items ≢ o

@@ -1,8 +1,8 @@
-use Rattle.std.proofs.Common.{◌+◌, ◌-◌, ◌≡◌, ◌≤◌, ◌∙◌, suc, refl, ap, sym, rules, arith, length, zero, inl, inr, cond, true, string_bytes, [], ◌∷◌, ◌++◌, Some}
-use Rattle.starlark_lexer.specs.Items.{keyword_lambda, keyword_if, dot, opening_round, opening_square, comma, closing_round, star, star_star, equal, colon, closing_square, opening_curly, keyword_for, closing_curly, fstring_end, fstring_expr_end, slash, identifier}
+use Rattle.std.proofs.Common.{◌+◌, ◌-◌, ◌≡◌, ◌∙◌, suc, refl, ap, sym, rules, arith, length, inl, inr, cond, true, string_bytes, [], ◌∷◌, ◌++◌, Some}
+use Rattle.starlark_lexer.specs.Items.{keyword_lambda, keyword_if, dot, opening_round, opening_square, comma, closing_round, star, star_star, equal, colon, closing_square, opening_curly, keyword_for, closing_curly, fstring_end, fstring_expr_end, slash}
 use Rattle.starlark_parser.specs.Made.{sign_of, bound_of, items_of, pairs_of, clauses_of}
-use Rattle.starlark_parser.specs.Nodes.{start, operated, from, leaf_at}
-use Rattle.starlark_parser.specs.Points.{behind_sign, body, operand, condition, otherwise, behind, first_at, member_wanted, an_argument, an_args, a_kwargs, member, member_read, a_named, at_first, at_second, at_third, bound, second, brackets, clauses_read, before_body}
+use Rattle.starlark_parser.specs.Nodes.{start, operated, from}
+use Rattle.starlark_parser.specs.Points.{behind_sign, body, operand, condition, otherwise, behind, first_at, an_argument, an_args, a_kwargs, member, a_named, at_first, at_second, at_third, bound, second, brackets, clauses_read, before_body}
 use Rattle.starlark_parser.specs.Frames.{inside, wants, has, tail, stands, perhaps_named}
 use Rattle.starlark_parser.specs.Machine.{tails}
 use Rattle.starlark_parser.specs.Reads.{begins_ahead, grade_ahead, name_ahead, in_clause}

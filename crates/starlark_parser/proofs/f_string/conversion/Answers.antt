@@ -1,4 +1,4 @@
-use Rattle.std.proofs.Common.{◌≡◌, ◌∙◌, refl, ap, rules}
+use Rattle.std.proofs.Common.{rules}
 use Rattle.starlark_parser.proofs.Exits.{◌>>◌, sticks, gives, halts, missing, stays_there}
 use Rattle.starlark_parser.proofs.Gathering.{took_any}
 use Rattle.starlark_parser.proofs.Quoting.{no_letter, letters, letter_found, letter_ends, no_letter_end, put, some_ahead}

@@ -1,6 +1,6 @@
-use Rattle.std.proofs.Common.{◌≡◌, ◌∙◌, refl, ap, sym, rules}
+use Rattle.std.proofs.Common.{◌∙◌, ap, sym, rules}
 use Rattle.starlark_lexer.specs.Items.{keyword_not}
-use Rattle.starlark_parser.specs.Reads.{operator_ahead, grade_ahead}
+use Rattle.starlark_parser.specs.Reads.{grade_ahead}
 use Rattle.starlark_parser.proofs.Exits.{◌>>◌, renamed, gives, missing, read_it, left_it}
 use Rattle.starlark_parser.proofs.Suffixing.{unlike}
 use Rattle.starlark_parser.proofs.Operating.{negates, no_in, operates_next, some_operator}

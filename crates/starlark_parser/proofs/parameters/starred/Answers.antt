@@ -1,4 +1,4 @@
-use Rattle.std.proofs.Common.{◌∙◌, ap, refl}
+use Rattle.std.proofs.Common.{◌∙◌, ap}
 use Rattle.starlark_ast.specs.Tree as tree
 use Rattle.starlark_parser.proofs.Exits.{gives}
 use Rattle.starlark_parser.proofs.Gathering.{member_as}

@@ -1,4 +1,4 @@
-use Rattle.std.proofs.Common.{◌≡◌, ◌∙◌, refl, ap, sym, rules}
+use Rattle.std.proofs.Common.{◌∙◌, ap, sym}
 use Rattle.starlark_parser.specs.Made.{maybe_sign, sign_of}
 use Rattle.starlark_parser.proofs.Exits.{gives}
 use Rattle.starlark_parser.proofs.Beginning.{not_none, sign_next, some_sign}

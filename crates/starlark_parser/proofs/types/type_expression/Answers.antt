@@ -1,5 +1,5 @@
-use Rattle.std.proofs.Common.{◌≡◌, ◌∙◌, None, refl, ap, sym, rules}
-use Rattle.starlark_rules.specs.View.{finding_of, maybe_finding}
+use Rattle.std.proofs.Common.{◌∙◌, None, refl, ap, sym, rules}
+use Rattle.starlark_rules.specs.View.{maybe_finding}
 use Rattle.starlark_parser.specs.Events.{typed}
 use Rattle.starlark_parser.specs.Frames.{spot}
 use Rattle.starlark_parser.specs.Reads.{type_read}
