@@ -48,3 +48,11 @@ pub mod Subscripting
 pub mod Operating
 pub mod Beginning
 pub mod Typing
+pub mod Assigning
+pub mod Returning
+pub mod Branching
+pub mod Suites
+pub mod Loading
+pub mod Rows
+pub mod Signing
+pub mod Answering

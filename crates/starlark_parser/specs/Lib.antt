@@ -22,3 +22,7 @@ pub mod Kinds
 pub mod Reads
 pub mod Made
 pub mod Gathered
+pub mod Assigning
+pub mod Lines
+pub mod Signature
+pub mod Refused

@@ -1,23 +1,22 @@
 //! Parameters of lambdas.
 
-ghost use Rattle.std.specs.Prelude.{◌≡◌, ◌≢◌, ℕ, ◌<◌, ◌≤◌, Bool, false, OnOk, IfOk, MatchOption, None, Some, length, string_bytes};
-ghost use Rattle.starlark_lexer.specs.Items.{item, identifier, colon};
+ghost use Rattle.std.specs.Prelude.{◌≢◌, ℕ, ◌<◌, ◌≤◌, Bool, false, OnOk, Some, length};
+ghost use Rattle.starlark_lexer.specs.Items.{colon};
 ghost use Rattle.starlark_lexer.specs.declared.dialect.Dialect.{Dialect};
 ghost use Rattle.starlark_ast.specs.Tree as tree;
 ghost use Rattle.starlark_ast.specs.View.{members};
 ghost use Rattle.starlark_parser.specs.Nodes.{start};
-ghost use Rattle.starlark_parser.specs.Spans.{stretch};
 ghost use Rattle.starlark_parser.specs.Points.{before_body, body, first_at, member_read, member_wanted, star_read};
 ghost use Rattle.starlark_parser.specs.Frames.{Frames, inside, stands, wants};
-ghost use Rattle.starlark_parser.specs.Reads.{Comes, Passes, first_lexeme, name_ahead};
+ghost use Rattle.starlark_parser.specs.Reads.{Comes, first_lexeme};
 
 use crate::build::Build;
 use crate::error::Error;
 use crate::expression::expression;
 use crate::kind::Kind;
+use crate::names::name;
 use crate::tokens::Tokens;
-use starlark_place::pos::{Pos, Spanned};
-use std::alloc::AllocError;
+use starlark_place::pos::Pos;
 
 /// The parameters of a lambda, with the colon behind them.
 #[cycle(expression)]
@@ -90,17 +89,4 @@ fn starred<B: Build>(tokens: &mut Tokens<'_>, begin: Pos) -> Result<B::Parameter
     };
     let span = tokens.since(begin);
     Ok(B::args_parameter(alloc, name, None, span)?)
-}
-
-/// An identifier, if one stands ahead, with its place.
-fn name(tokens: &mut Tokens<'_>) -> Result<Option<Spanned<String>>, AllocError>
-    ensures { IfOk result (λ o. MatchOption o ((tokens.new ≡ tokens.old) × (name_ahead tokens.old.items ≡ None)) (λ s. (s.span ≡ stretch (start tokens.old.items) tokens.new.last) × Passes tokens.old (item (start tokens.old.items) (identifier (string_bytes s.node)) tokens.new.last) tokens.new)) }
-{
-    let begin = tokens.begin();
-    let Some(found) = tokens.identifier()? else {
-        return Ok(None);
-    };
-    let span = tokens.since(begin);
-    let node = found.node;
-    Ok(Some(Spanned { span, node }))
 }

@@ -12,10 +12,12 @@ ghost use Rattle.starlark_parser.specs.Language.{is_comment, uncommented};
 ghost use Rattle.starlark_parser.specs.Nodes.{start};
 ghost use Rattle.starlark_parser.specs.Spans.{stretch};
 ghost use Rattle.starlark_parser.specs.Verdicts.{begins_test};
+ghost use Rattle.starlark_parser.specs.Refused.{fault_ahead, fault_of};
 ghost use Rattle.starlark_parser.specs.Reads.{left_of, with_ahead, first_lexeme, grade_ahead, name_ahead, string_ahead, Passes};
 
 use crate::error::Error;
 use crate::kind::{Kind, kind_of};
+use crate::refused::Refused;
 use starlark_lexer::lexer::Lexer;
 use starlark_lexer::token::{LexemeError, Token};
 use starlark_place::diagnostic::Refusal;
@@ -61,6 +63,13 @@ fn is_comment(token: &Token) -> bool
     }
 }
 
+/// The place itself, whose end is not before its beginning.
+fn place(span: &Span) -> Span
+    ensures { result ≡ stretch span.now.begin span.now.end }
+{
+    Span::new(span.begin(), span.end())
+}
+
 /// What the lexer gives next that is no comment.
 fn fetch(lexer: &mut Lexer) -> Result<Lookahead, AllocError>
     ensures { IfOk result (λ a. uncommented lexer.old.left ≡ with_ahead a (uncommented lexer.new.left)) }
@@ -102,6 +111,27 @@ impl<'a> Tokens<'a> {
     /// Where memory comes from.
     pub(crate) fn alloc(&self) -> Global {
         self.alloc
+    }
+
+    /// Why what stands ahead is refused: a token, the lexer's fault, or the end.
+    pub(crate) fn refusal(&self) -> Refused
+        ensures { fault_of result ≡ Some (fault_ahead self.now) }
+    {
+        match &self.ahead {
+            Lookahead::Token(span, _) => Refused::Unexpected(place(span)),
+            Lookahead::Fault(error, span) => Refused::Lexer(*error, place(span)),
+            Lookahead::End => Refused::UnexpectedEnd(self.last),
+        }
+    }
+
+    /// The lexer's fault, where it stands ahead.
+    pub(crate) fn fault(&self) -> Option<Refused>
+        ensures { MatchOption result (self.now.items ≡ [] → self.now.fault ≡ None) (λ e. (self.now.fault ≢ None) × (fault_of e ≡ Some (fault_ahead self.now))) }
+    {
+        match &self.ahead {
+            Lookahead::Fault(error, span) => Some(Refused::Lexer(*error, place(span))),
+            _ => None,
+        }
     }
 
     /// The kind of what stands ahead.
