@@ -1,5 +1,5 @@
 -- Steps of the machine at lines, and in suites.
-use Rattle.std.proofs.Common.{◌≡◌, ◌≢◌, ℕ, eqb, arith, List, [], ◌∷◌, ◌++◌, Some, None, true, false, refl, ap, sym, subst, ◌∙◌}
+use Rattle.std.proofs.Common.{◌≡◌, ◌≢◌, ℕ, eqb, arith, List, [], ◌∷◌, Some, None, true, false, refl, ap, sym, subst, ◌∙◌}
 use Rattle.std.proofs.lemmas.Bool.Decides.{nat_tests}
 use Rattle.starlark_lexer.specs.Items.{Lexeme, Item, item, newline, indent, dedent, keyword_if, keyword_for, keyword_def}
 use Rattle.starlark_lexer.specs.declared.dialect.Dialect.{Dialect}
