@@ -7,3 +7,5 @@ pub mod Sizes
 pub mod Within
 pub mod Unpacking
 pub mod ParameterLists
+pub mod Misfits
+pub mod Firsts

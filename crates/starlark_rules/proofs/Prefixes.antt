@@ -5,13 +5,13 @@ use Rattle.starlark_place.specs.Place.{merged_into}
 use Rattle.std.proofs.lemmas.List.Sums.{fold-append}
 use Rattle.starlark_ast.specs.Tree.{Member, Members, more, none}
 use Rattle.starlark_ast.specs.View.{members}
-use Rattle.starlark_rules.specs.Rules.{Finding, first_of}
+use Rattle.starlark_rules.specs.Rules.{first_of}
 use Rattle.starlark_rules.specs.Calls.{any, first_call_fault, argument_fault}
 use Rattle.starlark_rules.specs.Targets.{targets_fault, member_fault}
 use Rattle.starlark_rules.specs.Parameters.{parameters_fault, parameter_fault, member_count, first_slash, slash_fault, unnamed_star, behind_star, ending_star, star_place, parameter_places, parameter_place}
 
 -- the first fault of some members, each behind those before it
-abbrev pub first_fault : (Members → Member → Option Finding) → Members → Option Finding
+abbrev pub first_fault : {A : Type 0} → (Members → Member → Option A) → Members → Option A
 first_fault f none = None
 first_fault f (more ms m) = first_of (first_fault f ms) (f ms m)
 
@@ -35,16 +35,16 @@ pub any_more : {X : Type 0} (f : Member → Bool) (h : X → Member) (xs : List 
 any_more f h xs i x below is = ap (any f) (members_more h xs i x below is)
 
 -- no fault so far, and none of the next one
-pub still_clean : {X : Type 0} (f : Members → Member → Option Finding) (h : X → Member) (xs : List X) (i : ℕ) (x : X) → i < length xs → x ≡ get_or xs i x → first_fault f (members h (take i xs)) ≡ None → f (members h (take i xs)) (h x) ≡ None → first_fault f (members h (take (i + 1) xs)) ≡ None
+pub still_clean : {X A : Type 0} (f : Members → Member → Option A) (h : X → Member) (xs : List X) (i : ℕ) (x : X) → i < length xs → x ≡ get_or xs i x → first_fault f (members h (take i xs)) ≡ None → f (members h (take i xs)) (h x) ≡ None → first_fault f (members h (take (i + 1) xs)) ≡ None
 still_clean f h xs i x below is clean e = ap (first_fault f) (members_more h xs i x below is) ∙ ap (λ o. first_of o (f (members h (take i xs)) (h x))) clean ∙ e
 
 -- what is found stays the first
-pub goes_on : {X : Type 0} (f : Members → Member → Option Finding) (h : X → Member) (ms : Members) (a : Finding) (ys : List X) → first_fault f ms ≡ Some a → first_fault f (fold (λ ms y. more ms (h y)) ms ys) ≡ Some a
+pub goes_on : {X A : Type 0} (f : Members → Member → Option A) (h : X → Member) (ms : Members) (a : A) (ys : List X) → first_fault f ms ≡ Some a → first_fault f (fold (λ ms y. more ms (h y)) ms ys) ≡ Some a
 goes_on f h ms a [] e = e
 goes_on f h ms a (y ∷ ys) e = goes_on f h (more ms (h y)) a ys (ap (λ o. first_of o (f ms (h y))) e)
 
 -- no fault so far, and one of the next
-pub found_first : {X : Type 0} (f : Members → Member → Option Finding) (h : X → Member) (xs : List X) (i : ℕ) (x : X) (a : Finding) → i < length xs → x ≡ get_or xs i x → first_fault f (members h (take i xs)) ≡ None → f (members h (take i xs)) (h x) ≡ Some a → first_fault f (members h xs) ≡ Some a
+pub found_first : {X A : Type 0} (f : Members → Member → Option A) (h : X → Member) (xs : List X) (i : ℕ) (x : X) (a : A) → i < length xs → x ≡ get_or xs i x → first_fault f (members h (take i xs)) ≡ None → f (members h (take i xs)) (h x) ≡ Some a → first_fault f (members h xs) ≡ Some a
 found_first f h xs i x a below is clean found =
     let here : first_fault f (members h (take (i + 1) xs)) ≡ Some a = ap (first_fault f) (members_more h xs i x below is) ∙ ap (λ o. first_of o (f (members h (take i xs)) (h x))) clean ∙ found in
     ap (λ ys. first_fault f (members h ys)) (sym (take-append-drop (i + 1) xs)) ∙ ap (first_fault f) (fold-append (λ ms y. more ms (h y)) none (take (i + 1) xs) (drop (i + 1) xs)) ∙ goes_on f h (members h (take (i + 1) xs)) a (drop (i + 1) xs) here

@@ -47,7 +47,7 @@ member_breaks d h xs i x below is = sym (ap (late.member_rules d) (members_more 
 abbrev pub behind : {X : Type 0} → (X → Clause) → Clauses → List X → Clauses
 behind h cs xs = fold (λ ds y. t.and_clause ds (h y)) cs xs
 
-clauses_more : {X : Type 0} (h : X → Clause) (cs : Clauses) (xs : List X) (i : ℕ) (x : X) → i < length xs → x ≡ get_or xs i x → behind h cs (take (i + 1) xs) ≡ t.and_clause (behind h cs (take i xs)) (h x)
+pub clauses_more : {X : Type 0} (h : X → Clause) (cs : Clauses) (xs : List X) (i : ℕ) (x : X) → i < length xs → x ≡ get_or xs i x → behind h cs (take (i + 1) xs) ≡ t.and_clause (behind h cs (take i xs)) (h x)
 clauses_more h cs xs i x below is = ap (behind h cs) (take_more xs i x below) ∙ fold-append (λ ds y. t.and_clause ds (h y)) cs (take i xs) (get_or xs i x ∷ []) ∙ ap (λ y. t.and_clause (behind h cs (take i xs)) (h y)) (sym is)
 
 pub more_clauses : {X : Type 0} (h : X → Clause) (cs : Clauses) (xs : List X) → clause_sizes cs ≤ clause_sizes (behind h cs xs)
@@ -73,7 +73,7 @@ module _ {P L I A D T : Type 0} where
   by_layer m e p n a k (layer.ArgumentP::KwArgs x) s = ap (λ q. m (argument_view q s)) (argument.rolls-KwArgs x) ∙ ap m (argument_view-KwArgs x s) ∙ k (expr_at x) s
 
   -- an argument, where its expression alone counts
-  argument_as : {R : Type 0} (m : Member → R) (e : Expr → R) → ((x : Expr) (s : Extent) → m (t.positional x s) ≡ e x) → ((n : List ℕ) (u : Extent) (x : Expr) (s : Extent) → m (t.named n u x s) ≡ e x) → ((x : Expr) (s : Extent) → m (t.args x s) ≡ e x) → ((x : Expr) (s : Extent) → m (t.kwargs x s) ≡ e x) → (x : Spanned (ArgumentP P L I A D T)) → m (argument_at x) ≡ e (expr_at (argument_expr x.node))
+  pub argument_as : {R : Type 0} (m : Member → R) (e : Expr → R) → ((x : Expr) (s : Extent) → m (t.positional x s) ≡ e x) → ((n : List ℕ) (u : Extent) (x : Expr) (s : Extent) → m (t.named n u x s) ≡ e x) → ((x : Expr) (s : Extent) → m (t.args x s) ≡ e x) → ((x : Expr) (s : Extent) → m (t.kwargs x s) ≡ e x) → (x : Spanned (ArgumentP P L I A D T)) → m (argument_at x) ≡ e (expr_at (argument_expr x.node))
   argument_as m e p n a k x = ap (λ q. m (argument_view q x.span)) (sym (roll-out-ArgumentP P L I A D T x.node)) ∙ by_layer m e p n a k (out-ArgumentP P L I A D T x.node) x.span
 
   pub argument_breaks : (d : Dialect) (x : Spanned (ArgumentP P L I A D T)) → late.one_rules d (argument_at x) ≡ late.expr_rules d (expr_at (argument_expr x.node))

@@ -12,3 +12,4 @@ pub mod Standings
 pub mod Unpacked
 pub mod Named
 pub mod Tallies
+pub mod Misfits

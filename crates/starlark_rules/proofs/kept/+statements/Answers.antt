@@ -1,0 +1,138 @@
+use Rattle.std.proofs.Common.{◌∙◌, ◌≡◌, ◌++◌, sym, ap, suc, take, length, arith}
+use Rattle.std.proofs.Math.Seq.{take-length}
+use Rattle.std.proofs.lemmas.List.{append-nil}
+use Rattle.starlark_ast.specs.StatementViews.{statements_of, stmt_view-AssignModify, stmt_view-If, stmt_view-IfElse, stmt_view-For, stmt_view-Def, stmt_view-Statements, view-def, view-for}
+use Rattle.starlark_ast.specs.View.{stmt_at, stmt_view, members, parameter_at, expr_at, target_at}
+use Rattle.starlark_rules.specs.Kept as kept
+use Rattle.starlark_rules.specs.Rules.{first_finding}
+use Rattle.starlark_rules.specs.View.{finding_of}
+use Rattle.starlark_rules.proofs.Firsts.{at_statement, given, past, past_statement, stays}
+use Rattle.starlark_rules.proofs.Nodes.{nodes, all_nodes, nodes_of_one}
+use Rattle.starlark_rules.proofs.kept.+statements.Goals as goal
+
+-- ---- several statements
+
+pub statements_fault-statement_fault-requires : goal.statements_fault-statement_fault-requires
+statements_fault-statement_fault-requires g n c κs within =
+    let one = nodes_of_one c.args.xs.now c.loop-x.x-index c.x-item.result c.loop-x-test.true c.x-item.is in
+    (omega (arith, one), within)
+
+pub statements_fault-returns-in-Some : goal.statements_fault-returns-in-Some
+statements_fault-returns-in-Some g n c =
+    at_statement c.args.dialect.now stmt_at c.args.xs.now c.loop-x.x-index c.x-item.result (finding_of c.in-Some.found) c.loop-x-test.true c.x-item.is c.loop-x.invariant (given _ _ _ c.in-Some.is c.statement_fault.ensures)
+
+pub statements_fault-loop-x-preserved : goal.statements_fault-loop-x-preserved
+statements_fault-loop-x-preserved g n c =
+    past_statement c.args.dialect.now stmt_at c.args.xs.now c.loop-x.x-index c.x-item.result c.loop-x-test.true c.x-item.is c.loop-x.invariant (given _ _ _ c.in_default.is c.statement_fault.ensures)
+
+pub statements_fault-returns : goal.statements_fault-returns
+statements_fault-returns g n c =
+    let d = c.args.dialect.now in
+    let all = c.args.xs.now in
+    let at_end : c.loop-x.x-index ≡ length all = omega (arith, c.loop-x-test.false, c.loop-x.auto.x-index-end) in
+    c.loop-x.invariant ∙ ap (λ k. first_finding (kept.kept_sequence d (statements_of (take k all)))) at_end ∙ ap (λ ys. first_finding (kept.kept_sequence d (statements_of ys))) (take-length all)
+
+-- ---- a few parts, one behind the other
+
+pub if_fault-returns-in-Some : goal.if_fault-returns-in-Some
+if_fault-returns-in-Some g n c = stays _ _ _ (given _ _ _ c.in-Some.is c.expression_fault.ensures)
+
+pub if_fault-returns : goal.if_fault-returns
+if_fault-returns g n c = past _ _ _ (given _ _ _ c.in_default.is c.expression_fault.ensures) c.statement_fault.ensures
+
+pub if_else_fault-returns-in-Some : goal.if_else_fault-returns-in-Some
+if_else_fault-returns-in-Some g n c = stays _ _ _ (given _ _ _ c.in-Some.is c.if_fault.ensures)
+
+pub if_else_fault-returns : goal.if_else_fault-returns
+if_else_fault-returns g n c = past _ _ _ (given _ _ _ c.in_default.is c.if_fault.ensures) c.statement_fault.ensures
+
+pub for_fault-returns-in-Some : goal.for_fault-returns-in-Some
+for_fault-returns-in-Some g n c = stays _ _ _ (stays _ _ _ (given _ _ _ c.in-Some.is c.target_fault.ensures))
+
+pub for_fault-returns-in-Some-expression_fault : goal.for_fault-returns-in-Some-expression_fault
+for_fault-returns-in-Some-expression_fault g n c =
+    stays _ _ _ (past _ _ _ (given _ _ _ c.in_default.is c.target_fault.ensures) (given _ _ _ c.in-Some-expression_fault.is c.expression_fault.ensures))
+
+pub for_fault-returns : goal.for_fault-returns
+for_fault-returns g n c =
+    let d = c.args.dialect.now in
+    past _ _ _ (past _ _ _ (given _ _ _ c.in_default.is c.target_fault.ensures) (given _ _ _ c.in_default-expression_fault.is c.expression_fault.ensures))
+    (c.statement_fault.ensures ∙ ap (λ y. first_finding (kept.kept_rules d (stmt_at y))) c.deref.ensures)
+
+pub def_fault-returns-in-Some : goal.def_fault-returns-in-Some
+def_fault-returns-in-Some g n c =
+    let d = c.args.dialect.now in
+    stays _ _ _ (stays _ _ _ (given _ _ _ c.in-Some.is (c.parameters_fault.ensures ∙ ap (λ q. first_finding (kept.kept_members d (members parameter_at q))) c.deref.ensures.value)))
+
+pub def_fault-returns-in-Some-type_fault : goal.def_fault-returns-in-Some-type_fault
+def_fault-returns-in-Some-type_fault g n c =
+    let d = c.args.dialect.now in
+    stays _ _ _ (past _ _ _ (given _ _ _ c.in_default.is (c.parameters_fault.ensures ∙ ap (λ q. first_finding (kept.kept_members d (members parameter_at q))) c.deref.ensures.value)) (given _ _ _ c.in-Some-type_fault.is c.type_fault.ensures))
+
+pub def_fault-returns : goal.def_fault-returns
+def_fault-returns g n c =
+    let d = c.args.dialect.now in
+    past _ _ _ (past _ _ _ (given _ _ _ c.in_default.is (c.parameters_fault.ensures ∙ ap (λ q. first_finding (kept.kept_members d (members parameter_at q))) c.deref.ensures.value)) (given _ _ _ c.in_default-type_fault.is c.type_fault.ensures))
+    (c.statement_fault.ensures ∙ ap (λ y. first_finding (kept.kept_rules d (stmt_at y))) c.deref-2.ensures)
+
+-- ---- a statement
+
+pub statement_fault-statements_fault-requires : goal.statement_fault-statements_fault-requires
+statement_fault-statements_fault-requires g n c κs within =
+    let s = c.args.x.now.span in
+    let up : nodes (stmt_at c.args.x.now) ≡ suc (all_nodes (statements_of c.in-Statements.xs.items)) = ap (λ y. nodes (stmt_view y s)) c.in-Statements.is ∙ ap nodes (stmt_view-Statements c.in-Statements.xs s) in
+    let here = ap (λ q. all_nodes (statements_of q)) c.deref-in-Statements.ensures.value in
+    (omega (arith, up, here), within)
+
+pub statement_fault-returns-in-AssignModify : goal.statement_fault-returns-in-AssignModify
+statement_fault-returns-in-AssignModify g n c =
+    let d = c.args.dialect.now in
+    let s = c.args.x.now.span in
+    let arm = c.in-AssignModify in
+    let target = kept.kept_expr d (target_at arm.target) in
+    c.modify_fault.ensures ∙ ap first_finding
+    (ap (λ y. target ++ kept.kept_expr d (expr_at y)) c.deref.ensures
+    ∙ ap (λ q. q ++ kept.kept_expr d (expr_at arm.value.value)) (sym (append-nil target))
+    ∙ sym (ap (λ y. kept.kept_rules d (stmt_view y s)) arm.is ∙ ap (kept.kept_rules d) (stmt_view-AssignModify arm.target arm.field-1 arm.value s)))
+
+pub statement_fault-returns-in-Statements : goal.statement_fault-returns-in-Statements
+statement_fault-returns-in-Statements g n c =
+    let d = c.args.dialect.now in
+    let s = c.args.x.now.span in
+    c.statements_fault.ensures ∙ ap first_finding
+    (ap (λ q. kept.kept_sequence d (statements_of q)) c.deref-in-Statements.ensures.value
+    ∙ sym (ap (λ y. kept.kept_rules d (stmt_view y s)) c.in-Statements.is ∙ ap (kept.kept_rules d) (stmt_view-Statements c.in-Statements.xs s)))
+
+pub statement_fault-returns-in-If : goal.statement_fault-returns-in-If
+statement_fault-returns-in-If g n c =
+    let d = c.args.dialect.now in
+    let s = c.args.x.now.span in
+    let arm = c.in-If in
+    c.if_fault.ensures ∙ ap first_finding
+    (ap (λ y. kept.kept_expr d (expr_at arm.condition) ++ kept.kept_rules d (stmt_at y)) c.deref-in-If.ensures
+    ∙ sym (ap (λ y. kept.kept_rules d (stmt_view y s)) arm.is ∙ ap (kept.kept_rules d) (stmt_view-If arm.condition arm.body s)))
+
+pub statement_fault-returns-in-IfElse : goal.statement_fault-returns-in-IfElse
+statement_fault-returns-in-IfElse g n c =
+    let d = c.args.dialect.now in
+    let s = c.args.x.now.span in
+    let arm = c.in-IfElse in
+    let condition = kept.kept_expr d (expr_at arm.condition) in
+    c.if_else_fault.ensures ∙ ap first_finding
+    (ap (λ y. condition ++ kept.kept_rules d (stmt_at y.0) ++ kept.kept_rules d (stmt_at c.deref-in-IfElse-2.result.now.1)) c.deref-in-IfElse.ensures
+    ∙ ap (λ y. condition ++ kept.kept_rules d (stmt_at arm.bodies.value.0) ++ kept.kept_rules d (stmt_at y.1)) c.deref-in-IfElse-2.ensures
+    ∙ sym (ap (λ y. kept.kept_rules d (stmt_view y s)) arm.is ∙ ap (kept.kept_rules d) (stmt_view-IfElse arm.condition arm.bodies s)))
+
+pub statement_fault-returns-in-For : goal.statement_fault-returns-in-For
+statement_fault-returns-in-For g n c =
+    let d = c.args.dialect.now in
+    let s = c.args.x.now.span in
+    let inner = c.in-For.inner in
+    c.for_fault.ensures ∙ sym (ap first_finding (ap (λ y. kept.kept_rules d (stmt_view y s)) c.in-For.is ∙ ap (kept.kept_rules d) (stmt_view-For inner s ∙ view-for inner s)))
+
+pub statement_fault-returns-in-Def : goal.statement_fault-returns-in-Def
+statement_fault-returns-in-Def g n c =
+    let d = c.args.dialect.now in
+    let s = c.args.x.now.span in
+    let inner = c.in-Def.inner in
+    c.def_fault.ensures ∙ sym (ap first_finding (ap (λ y. kept.kept_rules d (stmt_view y s)) c.in-Def.is ∙ ap (kept.kept_rules d) (stmt_view-Def inner s ∙ view-def inner s)))
