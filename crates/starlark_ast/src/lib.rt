@@ -7,5 +7,6 @@ mod leaf;
 mod leaves;
 pub mod making;
 pub mod nodes;
+mod printing;
 pub mod visit;
 mod walk;
