@@ -56,3 +56,5 @@ pub mod Loading
 pub mod Rows
 pub mod Signing
 pub mod Answering
+pub mod Making
+pub mod Faulting

@@ -26,3 +26,6 @@ pub mod Assigning
 pub mod Lines
 pub mod Signature
 pub mod Refused
+pub mod Faults
+pub mod Trees
+pub mod Modules

@@ -1,26 +1,31 @@
-//! The language: grammar, machine, marks, and their laws; and code that reads texts of it into any tree.
+//! The language: grammar, machine, marks, and their laws; and the parser, which reads a text of it into a tree.
 #![tactic(auto)]
 
 mod arguments;
 mod assignment;
 mod atoms;
 mod block;
+mod boxes;
 mod brackets;
 mod branches;
 pub mod build;
 mod comprehension;
 mod definition;
+mod ends;
 mod error;
 mod expression;
 mod f_string;
+pub mod fault;
 mod for_loop;
 mod kind;
 pub mod laws;
 mod listed;
 mod load;
+pub mod module;
 mod names;
 mod operators;
 mod parameters;
+mod parts;
 mod read;
 mod refused;
 mod row;
@@ -34,4 +39,5 @@ mod suffixes;
 mod suite;
 pub mod text_laws;
 mod tokens;
+mod trees;
 mod types;

@@ -120,8 +120,8 @@ fn annotation_fault<P: AstPayload>(
     }
 }
 
-/// The assignment, which breaks no rule.
-fn assignment(
+/// The assignment of what stands on its sides, which breaks no rule: `assignment_fault` tells that.
+pub fn assignment(
     alloc: Global,
     lhs: AstExpr,
     ty: Option<Box<AstTypeExpr>>,
@@ -155,9 +155,9 @@ fn unboxed(ty: Option<Box<AstTypeExpr>>) -> Option<AstTypeExpr>
     }
 }
 
-/// The expression, which is a target, as one.
+/// The expression as a target, where it breaks no rule as one: `target_fault` tells that.
 #[cycle(conversion)]
-fn target(alloc: Global, x: AstExpr) -> Result<AstAssignTarget, AllocError>
+pub fn target(alloc: Global, x: AstExpr) -> Result<AstAssignTarget, AllocError>
     requires { targets.target_fault (expr_at x) ≡ None }
     ensures { IfOk result (λ t. target_at t ≡ targets.target_of (expr_at x)) }
 {

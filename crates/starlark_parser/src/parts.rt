@@ -1,0 +1,78 @@
+//! Parts of trees.
+
+ghost use Rattle.std.specs.Prelude.{◌≡◌, IfOk, string_bytes};
+ghost use Rattle.starlark_ast.specs.Tree as tree;
+ghost use Rattle.starlark_ast.specs.View.{comma_at, expr_at, ident_at, stmt_at};
+ghost use Rattle.starlark_parser.specs.Made.{sign_of};
+ghost use Rattle.starlark_parser.specs.Nodes.{type_at};
+ghost use Rattle.starlark_parser.specs.Trees.{boxed_type_at};
+
+use crate::boxes::boxed;
+use crate::build::Sign;
+use starlark_ast::ast::{
+    AssignIdentP, AstAssignIdent, AstExpr, AstStmt, AstTypeExpr, Comma, ExprP, TypeExprP,
+};
+use starlark_place::pos::{Span, Spanned};
+use std::alloc::{AllocError, Global};
+
+/// Where an expression stands.
+pub(crate) fn place_of(x: &AstExpr) -> Span
+    ensures { result ≡ tree.place (expr_at x.now) }
+{
+    x.span
+}
+
+/// Where a statement stands.
+pub(crate) fn statement_place_of(s: &AstStmt) -> Span
+    ensures { result ≡ tree.statement_place (stmt_at s.now) }
+{
+    s.span
+}
+
+/// An operand with what stands before it.
+pub(crate) fn signed(sign: Sign, operand: Box<AstExpr>, span: Span) -> AstExpr
+    ensures { expr_at result ≡ tree.signed (sign_of sign) (expr_at operand.value) span }
+{
+    let node = match sign {
+        Sign::Not => ExprP::Not(operand),
+        Sign::Minus => ExprP::Minus(operand),
+        Sign::Plus => ExprP::Plus(operand),
+        Sign::BitNot => ExprP::BitNot(operand),
+    };
+    Spanned { span, node }
+}
+
+/// The expression as a type.
+pub(crate) fn annotated(alloc: Global, x: AstExpr) -> Result<Box<AstTypeExpr>, AllocError>
+    ensures { IfOk result (λ t. boxed_type_at t ≡ type_at (expr_at x)) }
+{
+    let span = x.span;
+    let node = TypeExprP {
+        expr: x,
+        payload: (),
+    };
+    boxed(alloc, Spanned { span, node })
+}
+
+/// A name that is assigned.
+pub(crate) fn assigned(name: Spanned<String>) -> AstAssignIdent
+    ensures ident { result.node.ident ≡ name.node }
+    ensures span { result.span ≡ name.span }
+{
+    let Spanned { span, node } = name;
+    let node = AssignIdentP {
+        ident: node,
+        payload: (),
+    };
+    Spanned { span, node }
+}
+
+/// A comma, if there is one.
+pub(crate) fn maybe_comma(comma: Option<Span>) -> Option<Spanned<Comma>>
+    ensures { comma_at result ≡ comma }
+{
+    match comma {
+        None => None,
+        Some(span) => Some(Spanned { span, node: Comma }),
+    }
+}
