@@ -3,7 +3,7 @@
 ghost use Rattle.std.specs.Prelude.{◌≡◌, IfOk};
 
 use crate::query::{Question, Word};
-use crate::tokens;
+use crate::{module, tokens};
 use starlark_lexer::place::codemap::{CodeMap, CodeMapError, CodeMapId};
 use std::alloc::{AllocError, Global};
 use std::str::from_utf8;
@@ -37,7 +37,7 @@ impl From<AllocError> for Refused {
 }
 
 /// The map of a text, under the name `text`.
-fn codemap_of(alloc: Global, text: &str) -> Result<CodeMap, Refused>
+pub(crate) fn codemap_of(alloc: Global, text: &str) -> Result<CodeMap, Refused>
     ensures { IfOk result (λ m. m.source ≡ text.now) }
 {
     let name = String::from_str(alloc, "text")?;
@@ -54,8 +54,11 @@ pub(crate) fn answer(alloc: Global, question: Question, bytes: &[u8]) -> Result<
     let Ok(text) = from_utf8(bytes) else {
         return Err(Refused::Utf8);
     };
-    let codemap = codemap_of(alloc, text)?;
     match question.word {
-        Word::Tokens => tokens::answer(alloc, text, &question.dialect, codemap),
+        Word::Tokens => {
+            let codemap = codemap_of(alloc, text)?;
+            tokens::answer(alloc, text, &question.dialect, codemap)
+        }
+        Word::Module(shown) => module::answer(alloc, shown, text, &question.dialect),
     }
 }

@@ -7,11 +7,16 @@
 #![tactic(auto)]
 
 mod answer;
+mod expressions;
 mod fault;
+mod lines;
+mod module;
+mod outline;
 mod query;
 mod quote;
 mod stream;
 mod tokens;
+mod tree;
 
 use fault::{End, RunFault, fault_line, status};
 use query::{Question, question_named};

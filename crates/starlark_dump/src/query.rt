@@ -1,16 +1,19 @@
 //! What a query asks: a word, a dialect, and how many bytes of text stand behind its line.
 
+use crate::module::Shown;
 use starlark_lexer::dialect::Dialect;
 use std::str::from_utf8;
 
 /// The greatest number of bytes.
 const MOST: u64 = 4294967295;
 
-/// What is shown of a text. Each word stands in a module of its own name.
+/// What is shown of a text.
 #[derive(Clone, Copy)]
 pub(crate) enum Word {
     /// What the lexer cuts it into.
     Tokens,
+    /// Something of its tree.
+    Module(Shown),
 }
 
 /// A word and a dialect.
@@ -30,6 +33,9 @@ pub(crate) struct Query {
 fn word_named(name: &str) -> Option<Word> {
     match name {
         "tokens" => Some(Word::Tokens),
+        "outline" => Some(Word::Module(Shown::Outline)),
+        "statements" => Some(Word::Module(Shown::Statements)),
+        "tree" => Some(Word::Module(Shown::Tree)),
         _ => None,
     }
 }

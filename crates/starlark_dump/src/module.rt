@@ -1,0 +1,61 @@
+//! The words that show a tree: it is read, or refused by one line.
+
+use crate::answer::{Refused, codemap_of};
+use crate::{outline, tree};
+use starlark_lexer::dialect::Dialect;
+use starlark_lexer::place::codemap::CodeMapId;
+use starlark_lexer::place::diagnostic::WithDiagnostic;
+use starlark_parser::fault::{EvalException, ParserError};
+use starlark_parser::module::AstModule;
+use std::alloc::{AllocError, Global};
+use std::fmt::Write;
+
+/// What is shown of a tree.
+#[derive(Clone, Copy)]
+pub(crate) enum Shown {
+    /// Where each statement at the top begins, and its word.
+    Outline,
+    /// Where each statement stands.
+    Statements,
+    /// The tree, a line for each node.
+    Tree,
+}
+
+/// The lines for a text: those of its tree, or that of its refusal.
+pub(crate) fn answer(
+    alloc: Global,
+    shown: Shown,
+    text: &str,
+    dialect: &Dialect,
+) -> Result<String, Refused> {
+    let content = String::from_str(alloc, text)?;
+    match AstModule::parse(alloc, CodeMapId::EMPTY, "text", content, dialect) {
+        Ok(module) => lines(alloc, shown, text, &module),
+        Err(EvalException::TooLong) => Err(Refused::Long),
+        Err(EvalException::Fault(fault)) => Ok(refusal(alloc, &fault)?),
+        Err(EvalException::Memory) => Err(Refused::Memory),
+    }
+}
+
+/// The lines of the tree of that text.
+fn lines(alloc: Global, shown: Shown, text: &str, module: &AstModule) -> Result<String, Refused> {
+    let statement = module.statement();
+    let codemap = codemap_of(alloc, text)?;
+    match shown {
+        Shown::Outline => Ok(outline::outline(alloc, statement, &codemap)?),
+        Shown::Statements => Ok(outline::statements(alloc, statement, &codemap)?),
+        Shown::Tree => Ok(tree::answer(alloc, statement)?),
+    }
+}
+
+/// The line of a refusal: its place, and what is wrong there.
+fn refusal(alloc: Global, fault: &WithDiagnostic<ParserError>) -> Result<String, AllocError> {
+    let mut out = String::new(alloc);
+    out.push_str("refused ")?;
+    if let Some(span) = fault.span() {
+        let place = span.resolve_span();
+        write!(out, "{place} ")?;
+    }
+    write!(out, "{:?}\n", *fault.inner())?;
+    Ok(out)
+}
