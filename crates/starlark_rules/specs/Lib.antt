@@ -13,3 +13,4 @@ pub mod Unpacked
 pub mod Named
 pub mod Tallies
 pub mod Misfits
+pub mod Wildcards

@@ -12,4 +12,5 @@ mod late;
 pub mod parameters;
 pub mod rule;
 pub mod tree;
+pub mod type_expr;
 pub mod types;
