@@ -35,10 +35,7 @@ type Misfit = Option<Spanned<TypeExprUnpackError>>;
 
 /// The first fault of a type.
 #[cycle(misfit)]
-pub(crate) fn type_misfit<P: AstPayload>(
-    alloc: Global,
-    x: &AstExprP<P>,
-) -> Result<Misfit, AllocError>
+fn type_misfit<P: AstPayload>(alloc: Global, x: &AstExprP<P>) -> Result<Misfit, AllocError>
     ensures { IfOk result (λ found. maybe_misfit found ≡ misfit_in types.alone (expr_at x.now)) }
 {
     match &x.node {
@@ -176,7 +173,7 @@ fn arguments_misfit<P: AstPayload>(alloc: Global, xs: &[AstExprP<P>]) -> Result<
 }
 
 /// The members of a list.
-pub(crate) fn members_of<P: AstPayload>(x: &AstExprP<P>) -> Option<&[AstExprP<P>]>
+fn members_of<P: AstPayload>(x: &AstExprP<P>) -> Option<&[AstExprP<P>]>
     ensures { lent_members result ≡ list_members (expr_at x.now) }
 {
     match &x.node {
@@ -249,7 +246,7 @@ fn dots_misfit<P: AstPayload>(
 }
 
 /// What dots stand on.
-pub(crate) fn root<P: AstPayload>(x: &AstExprP<P>) -> &AstExprP<P>
+fn root<P: AstPayload>(x: &AstExprP<P>) -> &AstExprP<P>
     ensures { expr_at result.now ≡ types.root (expr_at x.now) }
 {
     match &x.node {
