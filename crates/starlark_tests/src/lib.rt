@@ -1,5 +1,5 @@
 //! Tests of the public calls of the crates below, of what no stream of texts can tell: closures, what places and errors
-//! print, calls on strings, readings of one number or one name. It has no code of its own, so the crates below are
+//! print, calls on strings, readings of one number or one name, modules. It has no code of its own, so the crates below are
 //! proved once.
 #![tactic(auto)]
 
@@ -17,6 +17,8 @@ mod lexing;
 mod maps;
 #[cfg(test)]
 mod numbers;
+#[cfg(test)]
+mod parsing;
 #[cfg(test)]
 mod rules;
 #[cfg(test)]

@@ -1,0 +1,61 @@
+//! A text with its tree, and what a refusal prints.
+
+use crate::common::{prints, span};
+use starlark_ast::ast::StmtP;
+use starlark_lexer::dialect::Dialect;
+use starlark_parser::fault::{EvalException, ParserErrorKind};
+use starlark_parser::module::AstModule;
+use starlark_place::codemap::CodeMapId;
+use std::alloc::{AllocError, Global};
+use std::test::Fail;
+
+fn parse(
+    alloc: Global,
+    text: &str,
+    dialect: &Dialect,
+) -> Result<Result<AstModule, EvalException>, AllocError> {
+    let content = String::from_str(alloc, text)?;
+    Ok(AstModule::parse(alloc, CodeMapId(1), "t", content, dialect))
+}
+
+#[test]
+fn modules(rt: HostRuntime) -> Result<(), Fail> {
+    let alloc = rt.alloc();
+    let text = "foo\ndef x():\n   pass";
+    let Ok(module) = parse(alloc, text, &Dialect::Standard)? else {
+        return Err(Fail::from(AllocError));
+    };
+    assert_eq!(rt; module.statement().span, span(0, 20));
+    assert!(&rt; matches!(module.statement().node, StmtP::Statements(_)));
+    Ok(())
+}
+
+#[test]
+fn refusals(rt: HostRuntime) -> Result<(), Fail> {
+    let alloc = rt.alloc();
+    for (text, shown, kind) in [
+        (
+            "1 + 2 )",
+            "unexpected token: t:1:7-8",
+            ParserErrorKind::Syntax,
+        ),
+        (
+            "if x:\n",
+            "unexpected end of the text: t:2:1",
+            ParserErrorKind::Syntax,
+        ),
+        ("x = $", "invalid input: t:1:5-6", ParserErrorKind::Lexer),
+        (
+            "1 = 2 )",
+            "this may not be assigned to: t:1:1-2",
+            ParserErrorKind::Rule,
+        ),
+    ] {
+        let Err(EvalException::Fault(fault)) = parse(alloc, text, &Dialect::Standard)? else {
+            return Err(Fail::from(AllocError));
+        };
+        prints(&rt, alloc, &fault, shown)?;
+        assert_eq!(rt; fault.inner().kind(), kind);
+    }
+    Ok(())
+}
