@@ -65,14 +65,14 @@ equal_from : (a b : ℕ) → eqb a b ≡ true → a ≡ b
 equal_from a b h = grind (arith, nat_tests)
 
 -- behind one ASCII byte
-one_boundary : (b : ℕ) (bs : List ℕ) → IsUtf8 (b ∷ bs) → b < 128 → IsCharBoundary (b ∷ bs) 1
+pub one_boundary : (b : ℕ) (bs : List ℕ) → IsUtf8 (b ∷ bs) → b < 128 → IsCharBoundary (b ∷ bs) 1
 one_boundary b bs utf8 ascii = behind (b ∷ bs) 1 utf8 (omega arith) (omega arith) ascii
 
 rest_utf8 : (b : ℕ) (bs : List ℕ) → IsUtf8 (b ∷ bs) → b < 128 → IsUtf8 bs
 rest_utf8 b bs utf8 ascii = IsUtf8-drop (b ∷ bs) 1 utf8 (one_boundary b bs utf8 ascii)
 
 -- one ASCII byte, and n bytes more
-past : (b : ℕ) (bs : List ℕ) (n : ℕ) → IsUtf8 (b ∷ bs) → b < 128 → (IsUtf8 bs → IsCharBoundary bs n) → IsCharBoundary (b ∷ bs) (1 + n)
+pub past : (b : ℕ) (bs : List ℕ) (n : ℕ) → IsUtf8 (b ∷ bs) → b < 128 → (IsUtf8 bs → IsCharBoundary bs n) → IsCharBoundary (b ∷ bs) (1 + n)
 past b bs n utf8 ascii more = IsCharBoundary-from_rest (b ∷ bs) 1 n (omega arith) (more (rest_utf8 b bs utf8 ascii))
 
 -- behind a character that is no ASCII
@@ -185,7 +185,7 @@ based_boundary b (c ∷ bs) utf8 =
 -- ---- a lexeme
 
 -- a lexeme of so many bytes ends between characters, and its text can be cut
-abbrev Ends : List ℕ → Found × ℕ → Type 0
+abbrev pub Ends : List ℕ → Found × ℕ → Type 0
 Ends xs (found.Kind k, n) = IsCharBoundary xs n × Slices k (take n xs)
 Ends xs (found.Fault e, n) = IsCharBoundary xs n
 Ends xs (found.Opens f, n) = IsCharBoundary xs n
@@ -287,7 +287,7 @@ by_front_ends b bs (Some x) e u =
     let at : get_or (take n (b ∷ bs)) (length (take n (b ∷ bs)) - 1) 0 ≡ get_or (b ∷ bs) (n - 1) 0 = ap (λ k. get_or (take n (b ∷ bs)) (k - 1) 0) len ∙ get_or-take n (b ∷ bs) (n - 1) 0 (omega (arith, h.nonempty)) in
     behind (b ∷ bs) n u h.nonempty h.within (subst (λ v. v < 128) at low)
 
-scan_ends : (b : ℕ) (bs : List ℕ) → IsUtf8 (b ∷ bs) → Ends (b ∷ bs) (scan (b ∷ bs))
+pub scan_ends : (b : ℕ) (bs : List ℕ) → IsUtf8 (b ∷ bs) → Ends (b ∷ bs) (scan (b ∷ bs))
 scan_ends b bs u = by_front_ends b bs (opening_front (b ∷ bs)) refl u
 
 -- ---- turns
@@ -325,7 +325,7 @@ found_bounds xs (found.Fault e, n) u h = fault_bounds xs n u h
 found_bounds xs (found.Opens f, n) u h = opens_bounds xs f n u h
 
 -- an LF, i bytes on
-newline_bounds : (rest : List ℕ) (i b : ℕ) (bs : List ℕ) (k : Kind) (f : Bool) → IsUtf8 rest → i ≤ length rest → drop i rest ≡ b ∷ bs → b < 128 → Slices k (take 1 (drop i rest)) → Bounds rest (turns.Gives i k 1 (i + 1) f)
+pub newline_bounds : (rest : List ℕ) (i b : ℕ) (bs : List ℕ) (k : Kind) (f : Bool) → IsUtf8 rest → i ≤ length rest → drop i rest ≡ b ∷ bs → b < 128 → Slices k (take 1 (drop i rest)) → Bounds rest (turns.Gives i k 1 (i + 1) f)
 newline_bounds rest i b bs k f utf8 le e ascii s =
     let at : get_or rest (i + 0) 0 ≡ b = sym (get_or-drop i rest 0 0) ∙ ap (λ xs. get_or xs 0 0) e in
     let z : i + 0 ≡ i = omega arith in
@@ -344,7 +344,7 @@ line_ascii b bs =
           elim (cases_Bool (eqb b 13)) [ inl f ↦ λ h. grind (arith, nat_tests) | inr f ↦ rw f (λ h. absurd (false≢true (sym h))) ])
     ]
 
-line_boundary : (xs : List ℕ) → IsCharBoundary xs (line_len xs)
+pub line_boundary : (xs : List ℕ) → IsCharBoundary xs (line_len xs)
 unfolding line_len
 line_boundary [] = IsCharBoundary-end []
 line_boundary (b ∷ bs) =
@@ -353,7 +353,7 @@ line_boundary (b ∷ bs) =
       | inr e ↦ rw e (omega arith, λ lt high. absurd (omega (arith, line_ascii b bs e, high)))
     ]
 
-line_end_boundary : (xs : List ℕ) → IsUtf8 xs → IsCharBoundary xs (line_end xs)
+pub line_end_boundary : (xs : List ℕ) → IsUtf8 xs → IsCharBoundary xs (line_end xs)
 unfolding line_end
 line_end_boundary [] u = IsCharBoundary-start [] u
 line_end_boundary (b ∷ bs) u =
@@ -374,7 +374,7 @@ line_end_boundary (b ∷ bs) u =
         ]
 
 -- a remark, i bytes on
-remark_bounds : (rest : List ℕ) (i b : ℕ) (bs : List ℕ) (e : ℕ) (f : Bool) → IsUtf8 rest → IsCharBoundary rest i → drop i rest ≡ b ∷ bs → b < 128 → IsCharBoundary (drop (line_len bs) bs) e
+pub remark_bounds : (rest : List ℕ) (i b : ℕ) (bs : List ℕ) (e : ℕ) (f : Bool) → IsUtf8 rest → IsCharBoundary rest i → drop i rest ≡ b ∷ bs → b < 128 → IsCharBoundary (drop (line_len bs) bs) e
     → Bounds rest (turns.Gives i kind.Comment (1 + line_len bs) (i + (1 + line_len bs) + e) f)
 remark_bounds rest i b bs e f u h is ascii ends =
     let v : IsUtf8 (b ∷ bs) = subst IsUtf8 is (IsUtf8-drop rest i u h) in
@@ -434,7 +434,7 @@ text_bounds f rest format u = by_ending (body f 0 rest) (body_bounds f rest u)
 
 -- ---- a line
 
-leading_boundary : (rest : List ℕ) → IsUtf8 rest → IsCharBoundary rest (leading rest)
+pub leading_boundary : (rest : List ℕ) → IsUtf8 rest → IsCharBoundary rest (leading rest)
 leading_boundary rest u = run_boundary is_blank rest blank_ascii u
 
 fits_bounds : (rest ws : List ℕ) (w : ℕ) → IsUtf8 rest → Bounds rest (fits ws w (leading rest))

@@ -37,4 +37,5 @@ mod Joined
 mod JoinedLayouts
 mod Covered
 mod Firm
+mod Characters
 pub mod Examples

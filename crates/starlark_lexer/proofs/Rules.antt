@@ -448,7 +448,7 @@ here_scan m b bs h k z = rw (h, k, z) refl
 not_both : (o : Option Meaning) (m : Meaning) → o ≡ None → o ≡ Some m → ⊥
 not_both o m h1 h2 = cc
 
-one_length : (rest : List ℕ) (n k : ℕ) (m v : Meaning) → IsLexeme rest n m → IsLexeme rest k v → n ≡ k
+pub one_length : (rest : List ℕ) (n k : ℕ) (m v : Meaning) → IsLexeme rest n m → IsLexeme rest k v → n ≡ k
 one_length rest n k m v a b =
     elim (cases_lt n k) [
       | inl l ↦ absurd (not_both _ v (a.longest k l b.within) b.means)
@@ -462,15 +462,15 @@ same_some m v o a b = cc
 one_meaning : (rest : List ℕ) (n k : ℕ) (m v : Meaning) → IsLexeme rest n m → IsLexeme rest k v → m ≡ v
 one_meaning rest n k m v a b = same_some m v _ a.means (ap (λ i. meaning (take i rest)) (one_length rest n k m v a b) ∙ b.means)
 
-stands : (b : ℕ) (bs : List ℕ) (n : ℕ) (m : Meaning) → IsLexeme (b ∷ bs) n m → is_passed b ≡ false
+pub stands : (b : ℕ) (bs : List ℕ) (n : ℕ) (m : Meaning) → IsLexeme (b ∷ bs) n m → is_passed b ≡ false
 stands b bs zero m h = absurd (omega (arith, h.nonempty))
 stands b bs (suc n) m h = elim (cases_Bool (is_passed b)) [ inr e ↦ e | inl e ↦ absurd (not_both _ m (passed_none b e (take n bs)) h.means) ]
 
-left_part : (a b : Bool) → (a || b) ≡ false → a ≡ false
+pub left_part : (a b : Bool) → (a || b) ≡ false → a ≡ false
 left_part false b h = refl
 left_part true b h = h
 
-right_part : (a b : Bool) → (a || b) ≡ false → b ≡ false
+pub right_part : (a b : Bool) → (a || b) ≡ false → b ≡ false
 right_part false b h = h
 right_part true b h = absurd (cc)
 

@@ -1,5 +1,6 @@
 -- Where items and the fault stand.
 use Rattle.std.specs.Prelude.{◌≡◌, ◌<◌, ◌≤◌, ℕ, Bool, true, false, ◌||◌, ◌&&◌, ◌==◌, nat_lt, slice_index, length, List, [], ◌∷◌, drop, Option, Some, None}
+use Rattle.starlark_place.specs.Place.{Holds, extent}
 use Rattle.starlark_lexer.specs.Items.{Lexeme, identifier, integer, Item, Stop}
 use Rattle.starlark_lexer.specs.Classes.{is_blank, line_end}
 
@@ -23,6 +24,12 @@ abbrev pub Covers : List ℕ → ℕ → List Item → Option Stop → Type 0
 Covers text i [] None = IsPassed text i (length text)
 Covers text i [] (Some s) = Unit {0}
 Covers text i (x ∷ xs) f = IsPassed text i x.begin × Covers text x.end xs f
+
+-- each item, and the fault, begins and ends between two characters of the text, or at one of its ends
+abbrev pub HoldsEach : List ℕ → List Item → Option Stop → Type 0
+HoldsEach text [] None = Unit {0}
+HoldsEach text [] (Some s) = Holds text (extent s.begin s.end)
+HoldsEach text (x ∷ xs) f = Holds text (extent x.begin x.end) × HoldsEach text xs f
 
 -- an identifier or an integer
 abbrev pub IsName : Lexeme → Type 0

@@ -1,6 +1,7 @@
 //! Laws of the definitions.
 
 ghost use Rattle.std.specs.Prelude.{◌*◌, ◌+◌, ◌≡◌, ◌≤◌, List, None, count_by, length, map, true, ℕ};
+ghost use Rattle.std.specs.Str.{IsUtf8};
 ghost use Rattle.starlark_lexer.specs.declared.dialect.TheConstants.Dialect.{AllOptionsInternal, Extended, Standard};
 ghost use Rattle.starlark_lexer.specs.declared.words.TheConstants.{KEYWORDS, OPERATORS, RESERVED};
 ghost use Rattle.starlark_lexer.specs.Dialects.{all_options, extended, standard};
@@ -8,7 +9,7 @@ ghost use Rattle.starlark_lexer.specs.Format.{Parsed, Pieces};
 ghost use Rattle.starlark_lexer.specs.Items.{Lexed, keyword_lexeme, operator_lexeme};
 ghost use Rattle.starlark_lexer.specs.Joining.{IsClosed, IsEven, IsJoined, IsLaid, IsLevel, dedent_item, opens_level};
 ghost use Rattle.starlark_lexer.specs.Lex.{Lex, start};
-ghost use Rattle.starlark_lexer.specs.Order.{AreFirm, Covers, InOrder};
+ghost use Rattle.starlark_lexer.specs.Order.{AreFirm, Covers, HoldsEach, InOrder};
 ghost use Rattle.starlark_lexer.specs.Words.{keywords, operators, reserved};
 
 /// A text has at most one reading.
@@ -36,6 +37,11 @@ pub fn joined_layouts()
 pub fn in_order()
     ensures order { (text : List ℕ) (l : Lexed) → Lex start text l → InOrder 0 (length text) l.items l.fault }
     ensures few { (text : List ℕ) (l : Lexed) → Lex start text l → length l.items ≤ 2 * length text + 1 }
+{}
+
+/// Items and the fault cut no character of the text.
+pub fn whole_characters()
+    ensures { (text : List ℕ) (l : Lexed) → IsUtf8 text → Lex start text l → HoldsEach text l.items l.fault }
 {}
 
 /// Before and between items, and behind them where there is no fault, stand only blanks, line
