@@ -33,7 +33,7 @@ abbrev seen_member : Member → List ℕ × ℕ
 seen_member x = (member_text x, member_size x)
 
 -- a node that is one variant looks at each place as that does
-by_variant : {X Y : Type 0} (h : Y → List ℕ × ℕ) (view : X → Extent → Y) (made : Extent → Y) {y x : X} → y ≡ x → ((s : Extent) → view x s ≡ made s) → ((s t : Extent) → h (made s) ≡ h (made t)) → (s t : Extent) → h (view y s) ≡ h (view y t)
+pub by_variant : {X Y Z : Type 0} (h : Y → Z) (view : X → Extent → Y) (made : Extent → Y) {y x : X} → y ≡ x → ((s : Extent) → view x s ≡ made s) → ((s t : Extent) → h (made s) ≡ h (made t)) → (s t : Extent) → h (view y s) ≡ h (view y t)
 by_variant h view made {y} {x} e v k s t = ap (λ q. h (view q s)) e ∙ ap h (v s) ∙ k s t ∙ sym (ap h (v t)) ∙ sym (ap (λ q. h (view q t)) e)
 
 literal_seen : (x : AstLiteral) (s t : Extent) → seen (literal_view x s) ≡ seen (literal_view x t)

@@ -1,6 +1,8 @@
 pub mod Anywhere
 pub mod Below
+pub mod Blocks
 pub mod Children
+mod Examples
 pub mod Lifted
 pub mod Sizes
 pub mod Tops

@@ -9,6 +9,7 @@ use Rattle.std.specs.contracts.option.Option as option
 use Rattle.std.specs.contracts.impls.GlobalAllocator.TheImpl.{ghosts}
 use Rattle.starlark_place.specs.declared.pos.Spanned.{Spanned}
 use Rattle.starlark_place.specs.contracts.pos.Spanned as spanned
+use Rattle.starlark_ast.specs.declared.ast.AssignIdentP.{AssignIdentP}
 use Rattle.starlark_ast.specs.declared.ast.ArgumentP.{ArgumentP, ArgumentP-F, out-ArgumentP}
 use Rattle.starlark_ast.specs.declared.ast.AssignTargetP.{AssignTargetP}
 use Rattle.starlark_ast.specs.declared.ast.ClauseP.{ClauseP}
@@ -23,6 +24,7 @@ use Rattle.starlark_ast.specs.declared.ast.ArgumentP.TheOpen as layer
 use Rattle.starlark_ast.specs.declared.ast.ArgumentP.TheVariants as argument
 use Rattle.starlark_ast.specs.declared.ast.ParameterP.TheVariants as parameter
 use Rattle.starlark_ast.specs.contracts.ast.ArgumentP as arguments
+use Rattle.starlark_ast.specs.contracts.ast.AssignIdentP as idents
 use Rattle.starlark_ast.specs.contracts.ast.ExprP as exprs
 use Rattle.starlark_ast.specs.contracts.ast.ParameterP as parameters
 use Rattle.starlark_ast.specs.contracts.ast.TypeExprP as types
@@ -45,6 +47,17 @@ module _ {P L I A D T : Type 0} where
   -- an argument with another expression
   abbrev pub with_expr : ArgumentP P L I A D T → Spanned (ExprP P L I A D T) → ArgumentP P L I A D T
   with_expr x y = with_expr_layer (out-ArgumentP P L I A D T x) y
+
+  abbrev pub with_ident_layer : ParameterP-F P L I A D T (ArgumentP P L I A D T) (AssignTargetP P L I A D T) (ClauseP P L I A D T) (ExprP P L I A D T) (ParameterP P L I A D T) (CallArgsP P L I A D T) (FStringP P L I A D T) (ForClauseP P L I A D T) (LambdaP P L I A D T) (TypeExprP P L I A D T) → Spanned (AssignIdentP P L I A D T) → ParameterP P L I A D T
+  with_ident_layer layer.Slash y = parameter.Slash
+  with_ident_layer (layer.Normal x type default) y = parameter.Normal y type default
+  with_ident_layer layer.NoArgs y = parameter.NoArgs
+  with_ident_layer (layer.ParameterP::Args x type) y = parameter.Args y type
+  with_ident_layer (layer.ParameterP::KwArgs x type) y = parameter.KwArgs y type
+
+  -- a parameter with another name, where it has one
+  abbrev pub with_ident : ParameterP P L I A D T → Spanned (AssignIdentP P L I A D T) → ParameterP P L I A D T
+  with_ident x y = with_ident_layer (out-ParameterP P L I A D T x) y
 
   abbrev pub with_type_layer : ParameterP-F P L I A D T (ArgumentP P L I A D T) (AssignTargetP P L I A D T) (ClauseP P L I A D T) (ExprP P L I A D T) (ParameterP P L I A D T) (CallArgsP P L I A D T) (FStringP P L I A D T) (ForClauseP P L I A D T) (LambdaP P L I A D T) (TypeExprP P L I A D T) → Spanned (TypeExprP P L I A D T) → ParameterP P L I A D T
   with_type_layer layer.Slash y = parameter.Slash
@@ -71,6 +84,9 @@ module _ {P L I A D T : Type 0} where
 module _ (P L I A D T : RattleType) where
   abbrev pub LendsExpr : MutBor (ArgumentP P.Denot L.Denot I.Denot A.Denot D.Denot T.Denot) → MutBor (Spanned (ExprP P.Denot L.Denot I.Denot A.Denot D.Denot T.Denot)) → Fml
   LendsExpr s r = Lends (arguments.the_row P L I A D T) (spanned.the_row (exprs.the_row P L I A D T)) s r (with_expr s.now)
+
+  abbrev pub LendsIdent : MutBor (ParameterP P.Denot L.Denot I.Denot A.Denot D.Denot T.Denot) → Option (MutBor (Spanned (AssignIdentP P.Denot L.Denot I.Denot A.Denot D.Denot T.Denot))) → Fml
+  LendsIdent s r = LendsIf (parameters.the_row P L I A D T) (spanned.the_row (idents.the_row P L I A D T)) s r (with_ident s.now) s.now
 
   abbrev pub LendsType : MutBor (ParameterP P.Denot L.Denot I.Denot A.Denot D.Denot T.Denot) → Option (MutBor (Spanned (TypeExprP P.Denot L.Denot I.Denot A.Denot D.Denot T.Denot))) → Fml
   LendsType s r = LendsIf (parameters.the_row P L I A D T) (spanned.the_row (types.the_row P L I A D T)) s r (with_type s.now) s.now

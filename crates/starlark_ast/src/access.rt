@@ -4,7 +4,7 @@ ghost use Rattle.std.specs.Prelude.{◌≡◌};
 ghost use Rattle.std.specs.Borrow.{sem};
 ghost use Rattle.std.specs.Option.{option_copied, option_copied_mut};
 ghost use Rattle.starlark_ast.specs.Access.{argument_expr, argument_name, def_signature, lambda_signature, load_arg_span, load_arg_whole_span, merged_with, parameter_default, parameter_ident, parameter_type, unboxed};
-ghost use Rattle.starlark_ast.specs.Lending.{LendsDefault, LendsExpr, LendsHeld, LendsType};
+ghost use Rattle.starlark_ast.specs.Lending.{LendsDefault, LendsExpr, LendsHeld, LendsIdent, LendsType};
 
 use crate::ast::{
     ArgumentP, AstAssignIdentP, AstExprP, AstPayload, AstTypeExprP, DefP, LambdaP, LoadArgP,
@@ -76,6 +76,20 @@ impl<P: AstPayload> ParameterP<P> {
     /// The name of a parameter that has one.
     pub fn ident(&self) -> Option<&AstAssignIdentP<P>>
         ensures { option_copied result ≡ parameter_ident self.now }
+    {
+        match self {
+            ParameterP::Slash => None,
+            ParameterP::Normal(name, _, _) => Some(name),
+            ParameterP::NoArgs => None,
+            ParameterP::Args(name, _) => Some(name),
+            ParameterP::KwArgs(name, _) => Some(name),
+        }
+    }
+
+    /// The name of a parameter that has one, for writing.
+    pub fn ident_mut(&mut self) -> Option<&mut AstAssignIdentP<P>>
+        ensures* writes_back { sem 𝓛 (LendsIdent P.row P.LoadPayload.row P.IdentPayload.row P.IdentAssignPayload.row P.DefPayload.row P.TypeExprPayload.row self.entry result) }
+        ensures value { option_copied_mut result ≡ parameter_ident self.old }
     {
         match self {
             ParameterP::Slash => None,

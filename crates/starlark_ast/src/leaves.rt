@@ -152,7 +152,7 @@ impl fmt::Display for BinOp {
 
 impl AssignOp {
     // the operator with a space on each side
-    fn text(self) -> &'static str
+    pub(crate) fn text(self) -> &'static str
         ensures { result.now ≡ assigning_text self }
     {
         match self {

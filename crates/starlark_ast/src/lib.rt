@@ -5,6 +5,8 @@ mod access;
 pub mod ast;
 mod leaf;
 mod leaves;
+mod lending;
+mod lines;
 pub mod making;
 pub mod nodes;
 mod printing;

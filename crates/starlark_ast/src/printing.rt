@@ -67,7 +67,7 @@ pub(crate) fn write_expr<P: AstPayload, W: fmt::Write>(
 
 /// Writes an expression between two texts.
 #[cycle(printing)]
-fn write_between<P: AstPayload, W: fmt::Write>(
+pub(crate) fn write_between<P: AstPayload, W: fmt::Write>(
     before: &str,
     x: &AstExprP<P>,
     after: &str,

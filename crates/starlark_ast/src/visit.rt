@@ -8,6 +8,7 @@ use crate::ast::{
     AssignTargetP, AstArgumentP, AstAssignIdentP, AstAssignTargetP, AstExprP, AstParameterP,
     AstPayload, AstTypeExprP, ClauseP, ExprP, ForClauseP, ParameterP,
 };
+use crate::lending::{Lends, lend_each};
 
 pub(crate) fn one<T, E, F: FnMut(&T) -> Result<(), E>>(x: &T, f: &mut F) -> Result<(), E>
     requires { F.IsAlwaysCallable f.old }
@@ -194,11 +195,7 @@ impl<P: AstPayload> ParameterP<P> {
         ensures calls { CallsEach lent F.FnMut f.old (parameter_places self.now) f.new }
         ensures callable { F.IsAlwaysCallable f.new }
     {
-        let mut go = |x: &AstExprP<P>| -> Result<(), ()> {
-            f(x);
-            Ok(())
-        };
-        let _ = self.visit_expr_err(&mut go);
+        lend_each(self, f)
     }
 }
 
@@ -233,11 +230,7 @@ impl<P: AstPayload> AssignTargetP<P> {
         ensures calls { CallsEach lent F.FnMut f.old (target_places self.now) f.new }
         ensures callable { F.IsAlwaysCallable f.new }
     {
-        let mut go = |x: &AstExprP<P>| -> Result<(), ()> {
-            f(x);
-            Ok(())
-        };
-        let _ = self.visit_expr_err(&mut go);
+        lend_each(self, f)
     }
 
     // each identifier that is assigned, up to the first `Err`
@@ -300,11 +293,7 @@ impl<P: AstPayload> ForClauseP<P> {
         ensures calls { CallsEach lent F.FnMut f.old (for_clause_places self.now) f.new }
         ensures callable { F.IsAlwaysCallable f.new }
     {
-        let mut go = |x: &AstExprP<P>| -> Result<(), ()> {
-            f(x);
-            Ok(())
-        };
-        let _ = self.visit_expr_err(&mut go);
+        lend_each(self, f)
     }
 }
 
@@ -330,11 +319,7 @@ impl<P: AstPayload> ClauseP<P> {
         ensures calls { CallsEach lent F.FnMut f.old (clause_places self.now) f.new }
         ensures callable { F.IsAlwaysCallable f.new }
     {
-        let mut go = |x: &AstExprP<P>| -> Result<(), ()> {
-            f(x);
-            Ok(())
-        };
-        let _ = self.visit_expr_err(&mut go);
+        lend_each(self, f)
     }
 }
 
@@ -415,10 +400,46 @@ impl<P: AstPayload> ExprP<P> {
         ensures calls { CallsEach lent F.FnMut f.old (children self.now) f.new }
         ensures callable { F.IsAlwaysCallable f.new }
     {
-        let mut go = |x: &AstExprP<P>| -> Result<(), ()> {
-            f(x);
-            Ok(())
-        };
-        let _ = self.visit_expr_err(&mut go);
+        lend_each(self, f)
+    }
+}
+
+impl<P: AstPayload> Lends<P> for ParameterP<P> {
+    ghost parts = { parameter_places };
+
+    fn lend_err<E, F: FnMut(&AstExprP<P>) -> Result<(), E>>(&self, f: &mut F) -> Result<(), E> {
+        self.visit_expr_err(f)
+    }
+}
+
+impl<P: AstPayload> Lends<P> for AssignTargetP<P> {
+    ghost parts = { target_places };
+
+    fn lend_err<E, F: FnMut(&AstExprP<P>) -> Result<(), E>>(&self, f: &mut F) -> Result<(), E> {
+        self.visit_expr_err(f)
+    }
+}
+
+impl<P: AstPayload> Lends<P> for ForClauseP<P> {
+    ghost parts = { for_clause_places };
+
+    fn lend_err<E, F: FnMut(&AstExprP<P>) -> Result<(), E>>(&self, f: &mut F) -> Result<(), E> {
+        self.visit_expr_err(f)
+    }
+}
+
+impl<P: AstPayload> Lends<P> for ClauseP<P> {
+    ghost parts = { clause_places };
+
+    fn lend_err<E, F: FnMut(&AstExprP<P>) -> Result<(), E>>(&self, f: &mut F) -> Result<(), E> {
+        self.visit_expr_err(f)
+    }
+}
+
+impl<P: AstPayload> Lends<P> for ExprP<P> {
+    ghost parts = { children };
+
+    fn lend_err<E, F: FnMut(&AstExprP<P>) -> Result<(), E>>(&self, f: &mut F) -> Result<(), E> {
+        self.visit_expr_err(f)
     }
 }

@@ -5,6 +5,7 @@ ghost use Rattle.starlark_ast.specs.Calls.{lent, CallsEach, StopsAtErr};
 ghost use Rattle.starlark_ast.specs.Statements.{assign_places, def_places, exprs_below, for_places, maybe_here, maybe_type_here, outer_exprs, stmts_below};
 
 use crate::ast::{AssignP, AstExprP, AstPayload, AstStmtP, AstTypeExprP, DefP, ForP, StmtP};
+use crate::lending::{Lends, lend_each};
 use crate::visit::{boxed, each, maybe_type, one, parameters, two};
 
 fn held<T, E, F: FnMut(&T) -> Result<(), E>>(x: &Option<T>, f: &mut F) -> Result<(), E>
@@ -233,10 +234,14 @@ impl<P: AstPayload> StmtP<P> {
         ensures calls { CallsEach lent F.FnMut f.old (outer_exprs self.now) f.new }
         ensures callable { F.IsAlwaysCallable f.new }
     {
-        let mut go = |x: &AstExprP<P>| -> Result<(), ()> {
-            f(x);
-            Ok(())
-        };
-        let _ = self.visit_expr_result(&mut go);
+        lend_each(self, f)
+    }
+}
+
+impl<P: AstPayload> Lends<P> for StmtP<P> {
+    ghost parts = { outer_exprs };
+
+    fn lend_err<E, F: FnMut(&AstExprP<P>) -> Result<(), E>>(&self, f: &mut F) -> Result<(), E> {
+        self.visit_expr_result(f)
     }
 }
