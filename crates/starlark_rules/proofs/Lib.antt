@@ -7,5 +7,7 @@ pub mod Sizes
 pub mod Within
 pub mod Unpacking
 pub mod ParameterLists
+pub mod Forms
 pub mod Misfits
+pub mod Places
 pub mod Firsts

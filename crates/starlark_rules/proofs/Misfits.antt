@@ -1,60 +1,138 @@
--- The first fault of a type, part by part.
-use Rattle.std.proofs.Common.{ℕ, ◌≡◌, ◌≤◌, ◌<◌, refl, sym, ap, ◌∙◌, Bool, true, cond, arith, IfOk, List, [], ◌∷◌, ◌++◌, append_assoc, append-nil, Option, Some, None, Result, Ok, Err}
-use Rattle.std.specs.Prelude.{codes, bytes_eq}
+-- The parts of a type or its first fault, part by part.
+use Rattle.std.proofs.Common.{ℕ, ◌≡◌, ◌≤◌, ◌<◌, ◌+◌, refl, sym, ap, subst, ◌∙◌, true, false, cond, arith, List, [], ◌∷◌, ◌++◌, append_assoc, append-nil, length, take, drop, take-append-drop, get_or, fold, Some, None, Result, Ok, Err}
+use Rattle.std.proofs.lemmas.List.Sums.{fold-append}
+use Rattle.std.specs.Prelude.{codes, bytes_eq, IsErrAnd}
 use Rattle.starlark_place.specs.Place.{Extent}
-use Rattle.starlark_place.specs.declared.pos.Spanned.{Spanned}
 use Rattle.starlark_ast.specs.declared.ast.BinOp.TheVariants.{BitOr}
 use Rattle.starlark_ast.specs.Tree as t
 use Rattle.starlark_ast.specs.Tree.{Expr, Member, Members, Name}
-use Rattle.starlark_rules.specs.Rules.{first_of, DotTypeBan, InvalidType}
+use Rattle.starlark_ast.specs.View.{members}
+use Rattle.starlark_rules.specs.Rules.{DotTypeBan, InvalidType}
 use Rattle.starlark_rules.specs.Parameters.{member_count}
-use Rattle.starlark_rules.specs.declared.rule.TypeExprUnpackError.{TypeExprUnpackError}
-use Rattle.starlark_rules.specs.Types.{Role, alone, argument, list_form, union_form, Misfit, misfit, Form, Path, path, add_form, from, from_both, index2_of, form_of, forms_of, root, attributes, dotted, dotted_text}
-use Rattle.starlark_rules.specs.Misfits.{fault_of, list_members, maybe_misfit, misfit_in, misfits_in, path_text}
-use Rattle.starlark_rules.proofs.Prefixes.{first_fault}
+use Rattle.starlark_rules.specs.Types.{Role, alone, argument, list_form, union_form, Misfit, misfit, Form, Forms, Path, path, no_forms, add_form, from, from_both, index2_of, index2_form, form_of, forms_of, root, attributes, dotted, dotted_text}
+use Rattle.starlark_rules.specs.Misfits.{Comes, Stops, list_members, path_text, stop_for}
+use Rattle.starlark_rules.specs.View.{type_fault_view}
+use Rattle.starlark_rules.specs.declared.types.Stop.{Stop}
+use Rattle.starlark_rules.specs.declared.types.Stop.TheVariants.{NoType, Memory}
+use Rattle.starlark_rules.proofs.Prefixes.{members_more}
 use Rattle.starlark_rules.proofs.Sizes.{size, sizes}
 
-pub fault_from : {A B : Type 0} (f : A → B) (r : Result A Misfit) → fault_of (from f r) ≡ fault_of r
-fault_from f (Ok a) = refl
-fault_from f (Err e) = refl
+-- ---- the same fault
 
-pub fault_both : {A B C : Type 0} (f : A → B → C) (r : Result A Misfit) (q : Result B Misfit) → fault_of (from_both f r q) ≡ first_of (fault_of r) (fault_of q)
-fault_both f (Ok a) q = fault_from (f a) q
-fault_both f (Err e) q = refl
+-- what has the faults of another
+abbrev pub Keeps : {A B : Type 0} → Result A Misfit → Result B Misfit → Type 0
+Keeps r q = (e : Misfit) → r ≡ Err e → q ≡ Err e
 
-pub fault_index2 : (u s : Extent) (p : Result Path Misfit) (q r : Result Form Misfit) → fault_of (index2_of u s p q r) ≡ first_of (fault_of p) (first_of (fault_of q) (fault_of r))
-fault_index2 u s (Ok p) q r = fault_both _ q r
-fault_index2 u s (Err e) q r = refl
+stays : {A B : Type 0} (r : Result A Misfit) (q : Result B Misfit) (stop : Stop) → Keeps r q → Stops r stop → Stops q stop
+stays r q (NoType x) f h = f _ h
+stays r q Memory f h = tt
+
+-- a stop that was made
+pub stops_at : {A : Type 0} (r : Result A Misfit) (stop made : Stop) → stop ≡ made → Stops r made → Stops r stop
+stops_at r stop made e h = subst (λ q. Stops r q) (sym e) h
+
+-- the same, by what it stops for
+pub stops_for : {A : Type 0} (r : Result A Misfit) (m : Misfit) (stop : Stop) → stop_for stop ≡ Some m → r ≡ Err m → Stops r stop
+stops_for r m (NoType x) e h = let same : m ≡ misfit (type_fault_view x.node) x.span = cc in h ∙ ap (λ y. Err y) same
+stops_for r m Memory e h = tt
+
+-- what a `?` returns
+pub given : {U : Type 0} (out : Result U Stop) (stop : Stop) → IsErrAnd out (λ e. e ≡ stop) → out ≡ Err stop
+given (Ok x) stop h = absurd h
+given (Err e) stop h = ap (λ y. Err y) h
+
+-- an early return
+pub exits : {A B U : Type 0} (v : U → B) (r : Result A Misfit) (q : Result B Misfit) (x : Result U Stop) (stop : Stop) → x ≡ Err stop → Keeps r q → Stops r stop → Comes v q x
+exits v r q x stop e f h = subst (λ y. Comes v q y) (sym e) (stays r q stop f h)
+
+-- the same, of a result that is named otherwise
+pub comes_as : {A U : Type 0} (v : U → A) (r q : Result A Misfit) (x : Result U Stop) → r ≡ q → Comes v r x → Comes v q x
+comes_as v r q (Ok u) e h = sym e ∙ h
+comes_as v r q (Err stop) e h = stays r q stop (λ m k. sym e ∙ k) h
+
+pub keeps_from : {A B : Type 0} (f : A → B) (r : Result A Misfit) → Keeps r (from f r)
+keeps_from f r e h = ap (from f) h
+
+-- what was made
+pub opens : {A U : Type 0} (v : U → A) (r : Result A Misfit) (made : Result U Stop) (x : U) → made ≡ Ok x → Comes v r made → r ≡ Ok (v x)
+opens v r made x e h = subst (λ q. Comes v r q) e h
+
+-- nothing was made, and nothing comes of it
+pub shuts : {A B U W : Type 0} (v : U → A) (w : W → B) (f : A → B) (r : Result A Misfit) (made : Result U Stop) (out : Result W Stop) (stop : Stop) → made ≡ Err stop → out ≡ Err stop → Comes v r made → Comes w (from f r) out
+shuts v w f r made out stop e is h = exits w r (from f r) out stop is (keeps_from f r) (subst (λ q. Comes v r q) e h)
+
+-- memory ran out
+pub lacks : {B W : Type 0} (w : W → B) (q : Result B Misfit) (out : Result W Stop) → out ≡ Err Memory → Comes w q out
+lacks w q out is = subst (λ y. Comes w q y) (sym is) tt
+
+pub keeps_first : {A B C : Type 0} (f : A → B → C) (r : Result A Misfit) (q : Result B Misfit) → Keeps r (from_both f r q)
+keeps_first f r q e h = ap (λ y. from_both f y q) h
+
+pub keeps_second : {A B C : Type 0} (f : A → B → C) (a : A) (r : Result A Misfit) (q : Result B Misfit) → r ≡ Ok a → Keeps q (from_both f r q)
+keeps_second f a r q is e h = ap (λ y. from_both f y q) is ∙ ap (from (f a)) h
+
+pub both_come : {A B C : Type 0} (f : A → B → C) (a : A) (b : B) (r : Result A Misfit) (q : Result B Misfit) → r ≡ Ok a → q ≡ Ok b → from_both f r q ≡ Ok (f a b)
+both_come f a b r q is js = ap (λ y. from_both f y q) is ∙ ap (from (f a)) js
 
 -- ---- several
 
-abbrev pub member_misfit : Role → Members → Member → Option Misfit
-member_misfit r ms (t.item x) = misfit_in r x
-member_misfit r ms m = None
+-- types in a row, and one more
+pub forms_next : {X : Type 0} (o : Role) (h : X → Expr) (xs : List X) (i : ℕ) (x : X) → i < length xs → x ≡ get_or xs i x → forms_of o (members (λ y. t.item (h y)) (take (i + 1) xs)) ≡ from_both add_form (forms_of o (members (λ y. t.item (h y)) (take i xs))) (form_of o (h x))
+forms_next o h xs i x below is = ap (forms_of o) (members_more (λ y. t.item (h y)) xs i x below is)
 
-nothing_more : {A : Type 0} (o : Option A) → o ≡ first_of o None
-nothing_more None = refl
-nothing_more (Some a) = refl
+goes_on : {X : Type 0} (o : Role) (h : X → Expr) (ms : Members) (e : Misfit) (ys : List X) → forms_of o ms ≡ Err e → forms_of o (fold (λ ns y. t.more ns (t.item (h y))) ms ys) ≡ Err e
+goes_on o h ms e [] is = is
+goes_on o h ms e (y ∷ ys) is = goes_on o h (t.more ms (t.item (h y))) e ys (ap (λ r. from_both add_form r (form_of o (h y))) is)
 
-pub misfits_first : (r : Role) (ms : Members) → misfits_in r ms ≡ first_fault (member_misfit r) ms
-misfits_first r t.none = refl
-misfits_first r (t.more ms (t.item x)) = fault_both add_form (forms_of r ms) (form_of r x) ∙ ap (λ o. first_of o (misfit_in r x)) (misfits_first r ms)
-misfits_first r (t.more ms (t.pair x y)) = misfits_first r ms ∙ nothing_more _
-misfits_first r (t.more ms (t.positional x s)) = misfits_first r ms ∙ nothing_more _
-misfits_first r (t.more ms (t.named n u x s)) = misfits_first r ms ∙ nothing_more _
-misfits_first r (t.more ms (t.args x s)) = misfits_first r ms ∙ nothing_more _
-misfits_first r (t.more ms (t.kwargs x s)) = misfits_first r ms ∙ nothing_more _
-misfits_first r (t.more ms (t.slash s)) = misfits_first r ms ∙ nothing_more _
-misfits_first r (t.more ms (t.no_args s)) = misfits_first r ms ∙ nothing_more _
-misfits_first r (t.more ms (t.parameter k n u a b s)) = misfits_first r ms ∙ nothing_more _
+-- the fault of one is that of all, where there was none before
+pub forms_stop : {X : Type 0} (o : Role) (h : X → Expr) (xs : List X) (i : ℕ) (x : X) (fs : Forms) → i < length xs → x ≡ get_or xs i x → forms_of o (members (λ y. t.item (h y)) (take i xs)) ≡ Ok fs → Keeps (from (add_form fs) (form_of o (h x))) (forms_of o (members (λ y. t.item (h y)) xs))
+forms_stop o h xs i x fs below is clean e found =
+    let here : forms_of o (members (λ y. t.item (h y)) (take (i + 1) xs)) ≡ Err e = forms_next o h xs i x below is ∙ ap (λ r. from_both add_form r (form_of o (h x))) clean ∙ found in
+    ap (λ ys. forms_of o (members (λ y. t.item (h y)) ys)) (sym (take-append-drop (i + 1) xs)) ∙ ap (forms_of o) (fold-append (λ ns y. t.more ns (t.item (h y))) t.none (take (i + 1) xs) (drop (i + 1) xs)) ∙ goes_on o h (members (λ y. t.item (h y)) (take (i + 1) xs)) e (drop (i + 1) xs) here
 
--- ---- the text of a path
+pub forms_go_on : {X : Type 0} (o : Role) (h : X → Expr) (xs : List X) (i : ℕ) (x : X) (fs gs : Forms) → i < length xs → x ≡ get_or xs i x → forms_of o (members (λ y. t.item (h y)) (take i xs)) ≡ Ok fs → from (add_form fs) (form_of o (h x)) ≡ Ok gs → forms_of o (members (λ y. t.item (h y)) (take (i + 1) xs)) ≡ Ok gs
+forms_go_on o h xs i x fs gs below is clean more = forms_next o h xs i x below is ∙ ap (λ r. from_both add_form r (form_of o (h x))) clean ∙ more
+
+-- ---- two types
+
+abbrev pub pair : Form → Form → Forms
+pair f g = add_form (add_form no_forms f) g
+
+pub first_stops : (r q : Result Form Misfit) → Keeps (from (add_form no_forms) r) (from_both pair r q)
+first_stops (Ok f) q e h = absurd (cc)
+first_stops (Err x) q e h = h
+
+pub second_is : (fs : Forms) (r q : Result Form Misfit) → from (add_form no_forms) r ≡ Ok fs → from_both pair r q ≡ from (add_form fs) q
+second_is fs (Ok f) q is = let same : add_form no_forms f ≡ fs = cc in ap (λ gs. from (add_form gs) q) same
+second_is fs (Err x) q is = absurd (cc)
+
+-- they are a union
+pub union_of_two : (r q : Result Form Misfit) (s : Extent) → from (λ fs. union_form fs s) (from_both pair r q) ≡ from_both (λ f g. union_form (pair f g) s) r q
+union_of_two (Ok f) (Ok g) s = refl
+union_of_two (Ok f) (Err e) s = refl
+union_of_two (Err e) q s = refl
+
+-- ---- two arguments behind a path
+
+pub keeps_path : (u s : Extent) (p : Result Path Misfit) (q r : Result Form Misfit) → Keeps p (index2_of u s p q r)
+keeps_path u s p q r e h = ap (λ y. index2_of u s y q r) h
+
+pub keeps_argument : (u s : Extent) (a : Path) (p : Result Path Misfit) (q r : Result Form Misfit) → p ≡ Ok a → Keeps q (index2_of u s p q r)
+keeps_argument u s a p q r is e h = ap (λ y. index2_of u s y q r) is ∙ keeps_first _ q r e h
+
+pub keeps_second_argument : (u s : Extent) (a : Path) (f : Form) (p : Result Path Misfit) (q r : Result Form Misfit) → p ≡ Ok a → q ≡ Ok f → Keeps r (index2_of u s p q r)
+keeps_second_argument u s a f p q r is js e h = ap (λ y. index2_of u s y q r) is ∙ keeps_second _ f q r js e h
+
+pub index2_comes : (u s : Extent) (a : Path) (f g : Form) (p : Result Path Misfit) (q r : Result Form Misfit) → p ≡ Ok a → q ≡ Ok f → r ≡ Ok g → index2_of u s p q r ≡ Ok (index2_form a u f g s)
+index2_comes u s a f g p q r is js ks = ap (λ y. index2_of u s y q r) is ∙ both_come _ f g q r js ks
+
+-- ---- a path
 
 text_behind : (ns : List Name) (n : List ℕ) (u : Extent) → dotted_text (ns ++ (t.name_at n u ∷ [])) ≡ dotted_text ns ++ (codes "." ++ n)
 text_behind [] n u = append-nil (codes "." ++ n)
 text_behind (t.name_at m v ∷ ns) n u = ap (λ q. codes "." ++ m ++ q) (text_behind ns n u) ∙ sym (append_assoc (codes "." ++ m) (dotted_text ns) (codes "." ++ n))
 
-pub text_is : (x : Expr) (n : List ℕ) (u s : Extent) → root x ≡ t.leaf (t.name n) u s → path_text x ≡ n ++ dotted_text (attributes x)
+text_is : (x : Expr) (n : List ℕ) (u s : Extent) → root x ≡ t.leaf (t.name n) u s → path_text x ≡ n ++ dotted_text (attributes x)
 text_is (t.dot x m v w) n u s e = ap (λ q. q ++ codes "." ++ m) (text_is x n u s e) ∙ append_assoc (n ++ dotted_text (attributes x)) (codes ".") m ∙ append_assoc n (dotted_text (attributes x)) (codes "." ++ m) ∙ sym (ap (λ q. n ++ q) (text_behind (attributes x) m v))
 text_is (t.leaf (t.name m) v w) n u s e = let same : m ≡ n = cc in same ∙ sym (append-nil n)
 text_is (t.leaf (t.int i) v w) n u s e = absurd (cc)
@@ -74,16 +152,27 @@ text_is (t.operation x o y w) n u s e = absurd (cc)
 text_is (t.choice x y z w) n u s e = absurd (cc)
 text_is (t.fstring f v ms r w) n u s e = absurd (cc)
 
+dots_are : (x : Expr) (n m : List ℕ) (u s v : Extent) → root x ≡ t.leaf (t.name n) u s → dotted (root x) (attributes x) m v ≡ cond (bytes_eq m (codes "type")) (Err (misfit (DotTypeBan (n ++ dotted_text (attributes x))) s)) (Ok (path (t.name_at n u) (attributes x ++ (t.name_at m v ∷ []))))
+dots_are x n m u s v e = ap (λ q. dotted q (attributes x) m v) e
+
 -- a path that ends in `.type`
-pub banned : (x : Expr) (n m text : List ℕ) (u s v : Extent) → root x ≡ t.leaf (t.name n) u s → bytes_eq m (codes "type") ≡ true → text ≡ path_text x → Some (misfit (DotTypeBan text) s) ≡ fault_of (dotted (root x) (attributes x) m v)
+pub banned : (x : Expr) (n m text : List ℕ) (u s v : Extent) → root x ≡ t.leaf (t.name n) u s → bytes_eq m (codes "type") ≡ true → text ≡ path_text x → dotted (root x) (attributes x) m v ≡ Err (misfit (DotTypeBan text) s)
 banned x n m text u s v e is_type so =
-    ap (λ q. Some (misfit (DotTypeBan q) s)) (so ∙ text_is x n u s e)
-    ∙ sym (ap (λ q. fault_of (dotted q (attributes x) m v)) e ∙ ap (λ b. fault_of (cond b (Err (misfit (DotTypeBan (n ++ dotted_text (attributes x))) s)) (Ok (path (t.name_at n u) (attributes x ++ (t.name_at m v ∷ [])))))) is_type)
+    dots_are x n m u s v e
+    ∙ ap (λ b. cond b (Err (misfit (DotTypeBan (n ++ dotted_text (attributes x))) s)) (Ok (path (t.name_at n u) (attributes x ++ (t.name_at m v ∷ []))))) is_type
+    ∙ ap (λ q. Err (misfit (DotTypeBan q) s)) (sym (so ∙ text_is x n u s e))
+
+-- any other
+pub taken : (x : Expr) (n m : List ℕ) (u s v : Extent) (ns : List Name) → root x ≡ t.leaf (t.name n) u s → bytes_eq m (codes "type") ≡ false → ns ≡ attributes x ++ (t.name_at m v ∷ []) → dotted (root x) (attributes x) m v ≡ Ok (path (t.name_at n u) ns)
+taken x n m u s v ns e other so =
+    dots_are x n m u s v e
+    ∙ ap (λ b. cond b (Err (misfit (DotTypeBan (n ++ dotted_text (attributes x))) s)) (Ok (path (t.name_at n u) (attributes x ++ (t.name_at m v ∷ []))))) other
+    ∙ ap (λ q. Ok (path (t.name_at n u) q)) (sym so)
 
 -- ---- an argument, a list
 
 -- only lists are other as arguments
-pub same_alone : (x : Expr) → None ≡ list_members x → misfit_in alone x ≡ misfit_in argument x
+pub same_alone : (x : Expr) → None ≡ list_members x → form_of alone x ≡ form_of argument x
 same_alone (t.list ms s) e = absurd (cc)
 same_alone (t.operation x BitOr y s) e = refl
 same_alone (t.operation x _ y s) e = refl
@@ -93,26 +182,21 @@ same_alone (t.index _ (t.single y) s) e = refl
 same_alone (t.index x _ s) e = refl
 same_alone _ e = refl
 
-pub list_argument : (x : Expr) (ns : Members) → Some ns ≡ list_members x → misfits_in argument ns ≡ misfit_in argument x
-list_argument (t.list ms s) ns e = let same : ns ≡ ms = cc in ap (misfits_in argument) same ∙ sym (fault_from (λ fs. list_form fs s) (forms_of argument ms))
-list_argument _ ns e = absurd (cc)
+pub list_argument : (x : Expr) (ns : Members) (s : Extent) → t.place x ≡ s → Some ns ≡ list_members x → from (λ fs. list_form fs s) (forms_of argument ns) ≡ form_of argument x
+list_argument (t.list ms u) ns s at e = let same : ns ≡ ms = cc in ap (λ q. from (λ fs. list_form fs s) (forms_of argument q)) same ∙ ap (λ v. from (λ fs. list_form fs v) (forms_of argument ms)) (sym at)
+list_argument _ ns s at e = absurd (cc)
 
 pub list_is_less : (x : Expr) (ns : Members) → Some ns ≡ list_members x → sizes ns < size x
 list_is_less (t.list ms s) ns e = let same : ns ≡ ms = cc in omega (arith, ap sizes same)
 list_is_less _ ns e = absurd (cc)
 
 -- a list that is a union
-pub union_misfit : (ms : Members) (s : Extent) → 2 ≤ member_count ms → misfits_in alone ms ≡ misfit_in alone (t.list ms s)
-union_misfit t.none s e = absurd (omega (arith, e))
-union_misfit (t.more t.none m) s e = absurd (omega (arith, e))
-union_misfit (t.more (t.more ms k) m) s e = sym (fault_from (λ fs. union_form fs s) (forms_of alone (t.more (t.more ms k) m)))
+pub union_is : (ms : Members) (s : Extent) → 2 ≤ member_count ms → form_of alone (t.list ms s) ≡ from (λ fs. union_form fs s) (forms_of alone ms)
+union_is t.none s e = absurd (omega (arith, e))
+union_is (t.more t.none m) s e = absurd (omega (arith, e))
+union_is (t.more (t.more ms k) m) s e = refl
 
-pub single_misfit : (ms : Members) (s : Extent) → member_count ms ≡ 1 → Some (misfit (InvalidType (codes "list of 1 element")) s) ≡ misfit_in alone (t.list ms s)
-single_misfit t.none s e = absurd (omega (arith, e))
-single_misfit (t.more t.none m) s e = refl
-single_misfit (t.more (t.more ms k) m) s e = absurd (omega (arith, e))
-
--- what a call finds, said otherwise
-pub found_as : {E : Type 0} (r : Result (Option (Spanned TypeExprUnpackError)) E) (p q : Option Misfit) → p ≡ q → IfOk r (λ found. maybe_misfit found ≡ p) → IfOk r (λ found. maybe_misfit found ≡ q)
-found_as (Ok found) p q e h = h ∙ e
-found_as (Err x) p q e h = h
+pub single_is : (ms : Members) (s : Extent) → member_count ms ≡ 1 → form_of alone (t.list ms s) ≡ Err (misfit (InvalidType (codes "list of 1 element")) s)
+single_is t.none s e = absurd (omega (arith, e))
+single_is (t.more t.none m) s e = refl
+single_is (t.more (t.more ms k) m) s e = absurd (omega (arith, e))

@@ -12,5 +12,6 @@ pub mod Standings
 pub mod Unpacked
 pub mod Named
 pub mod Tallies
+pub mod Forms
 pub mod Misfits
 pub mod Wildcards

@@ -1,32 +1,31 @@
--- Why an expression is no type, without the type.
-use Rattle.std.specs.Prelude.{ℕ, List, [], ◌++◌, codes, Option, Some, None, Result, Ok, Err}
+-- Types as the code takes them apart.
+use Rattle.std.specs.Prelude.{◌≡◌, ℕ, List, [], ◌++◌, codes, fold, Option, Some, None, Result, Ok, Err}
 use Rattle.std.specs.Borrow.{Bor}
 use Rattle.starlark_place.specs.declared.pos.Spanned.{Spanned}
 use Rattle.starlark_ast.specs.declared.ast.ExprP.{ExprP}
 use Rattle.starlark_ast.specs.Tree as t
 use Rattle.starlark_ast.specs.Tree.{Expr, Members}
 use Rattle.starlark_ast.specs.Views.{items_of}
-use Rattle.starlark_rules.specs.Types.{Role, Misfit, misfit, form_of, forms_of}
+use Rattle.starlark_rules.specs.Forms.{form_at}
+use Rattle.starlark_rules.specs.Types.{Misfit, misfit, Forms, no_forms, add_form}
 use Rattle.starlark_rules.specs.View.{type_fault_view}
-use Rattle.starlark_rules.specs.declared.rule.TypeExprUnpackError.{TypeExprUnpackError}
+use Rattle.starlark_rules.specs.declared.types.Stop.{Stop}
+use Rattle.starlark_rules.specs.declared.types.Stop.TheVariants.{NoType, Memory}
+use Rattle.starlark_rules.specs.declared.type_expr.TypeExprUnpackP.{TypeExprUnpackP}
 
 -- the fault, if it is one
-abbrev pub fault_of : {A : Type 0} → Result A Misfit → Option Misfit
-fault_of (Ok a) = None
-fault_of (Err e) = Some e
+abbrev pub stop_for : Stop → Option Misfit
+stop_for (NoType x) = Some (misfit (type_fault_view x.node) x.span)
+stop_for Memory = None
 
--- the first fault of a type
-abbrev pub misfit_in : Role → Expr → Option Misfit
-misfit_in r x = fault_of (form_of r x)
+-- What the code makes is so much as plain data, or it stops at the same fault, or memory ran out.
+abbrev pub Stops : {A : Type 0} → Result A Misfit → Stop → Type 0
+Stops r (NoType x) = r ≡ Err (misfit (type_fault_view x.node) x.span)
+Stops r Memory = Unit {0}
 
--- the first fault of several
-abbrev pub misfits_in : Role → Members → Option Misfit
-misfits_in r ms = fault_of (forms_of r ms)
-
--- a fault of the code at its place, if there is one
-abbrev pub maybe_misfit : Option (Spanned TypeExprUnpackError) → Option Misfit
-maybe_misfit None = None
-maybe_misfit (Some x) = Some (misfit (type_fault_view x.node) x.span)
+abbrev pub Comes : {A U : Type 0} → (U → A) → Result A Misfit → Result U Stop → Type 0
+Comes v r (Ok u) = r ≡ Ok (v u)
+Comes v r (Err stop) = Stops r stop
 
 -- an identifier and the attributes behind it, joined by dots
 abbrev pub path_text : Expr → List ℕ
@@ -44,3 +43,7 @@ module _ {P L I A D T : Type 0} where
   abbrev pub lent_members : Option (Bor (List (Spanned (ExprP P L I A D T)))) → Option Members
   lent_members None = None
   lent_members (Some xs) = Some (items_of xs.now)
+
+  -- types in a row
+  abbrev pub forms_view : List (Spanned (TypeExprUnpackP P L I A D T)) → Forms
+  forms_view xs = fold (λ fs x. add_form fs (form_at x)) no_forms xs

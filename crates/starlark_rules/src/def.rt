@@ -249,7 +249,11 @@ fn with_name<'a, P: AstPayload>(
 }
 
 /// Adds a value and its place.
-fn push_at<T: Drop>(out: &mut Vec<Spanned<T>>, span: Span, node: T) -> Result<(), AllocError>
+pub(crate) fn push_at<T: Drop>(
+    out: &mut Vec<Spanned<T>>,
+    span: Span,
+    node: T,
+) -> Result<(), AllocError>
     ensures { OnOk result (out.new.items ≡ out.old.items ++ (record { span = span; node = node } ∷ [])) }
 {
     out.push(Spanned { span, node })?;
