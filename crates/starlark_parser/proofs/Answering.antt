@@ -14,6 +14,7 @@ use Rattle.starlark_parser.specs.Frames.{at_line, outer}
 use Rattle.starlark_parser.specs.Runs.{initial, run}
 use Rattle.starlark_parser.specs.Verdicts.{Fine, Unexpected, Broken, Spoilt, settle, judge}
 use Rattle.starlark_parser.specs.Language.{Fault, IsProgram, IsRefusal, IsRefused, Language, by_rule, last_end, uncommented}
+use Rattle.starlark_parser.specs.Asides.{Aside}
 use Rattle.starlark_parser.specs.Reads.{Left, left_of, Answers, Goes, Sticks}
 use Rattle.starlark_parser.specs.declared.refused.Refused.{Refused}
 use Rattle.starlark_parser.specs.Refused.{fault_ahead, fault_at, fault_of}
@@ -43,11 +44,11 @@ stuck_at (x ∷ xs) s e = refl
 stuck_at [] (Some s) e = refl
 stuck_at [] None e = refl
 
-pub stuck_is : {d : Dialect} {l : Lexed} (us : Left) → Sticks d initial (left_of 0 l) us → IsRefusal d l (fault_ahead us)
+pub stuck_is : {d : Dialect} {l : Lexed} {a : Aside} (us : Left) → Sticks d initial (left_of 0 l a) us → IsRefusal d l (fault_ahead us)
 stuck_is {d} {l} us p = refusal_is d l (fault_ahead us) (ap (λ v. told v l.fault (last_end 0 l.items)) p.same ∙ ap (λ s. told (Unexpected us.items) s (last_end 0 l.items)) (sym p.behind.fault) ∙ ap (told (Unexpected us.items) us.fault) (sym p.behind.last) ∙ stuck_at us.items us.fault us.last)
 
 -- a rule is broken
-pub broken_is : {d : Dialect} {l : Lexed} {n : ℕ} (f : Spanned Rule) → Answers d initial (left_of 0 l) (Broken (finding_of f) n) → IsRefusal d l (by_rule (rule_view f.node) f.span)
+pub broken_is : {d : Dialect} {l : Lexed} {a : Aside} {us : Left} {n : ℕ} (f : Spanned Rule) → Answers d initial (left_of 0 l a) (Broken (finding_of f) n) us → IsRefusal d l (by_rule (rule_view f.node) f.span)
 broken_is {d} {l} f p = refusal_is d l _ (ap (λ v. told v l.fault (last_end 0 l.items)) p.same)
 
 -- all tokens were read
@@ -56,7 +57,7 @@ pub record Read (d : Dialect) (l : Lexed) (us : Left) (raw : Statement) : Type 0
   pub fault : us.fault ≡ l.fault
   pub items : us.items ≡ []
 
-pub all_read : {d : Dialect} {l : Lexed} (us : Left) (ss : Sequence) → Goes d initial (left_of 0 l) (at_line (outer ss) us.last) us → us.items ≡ [] → Read d l us (block_of ss us.last)
+pub all_read : {d : Dialect} {l : Lexed} {a : Aside} (us : Left) (ss : Sequence) → Goes d initial (left_of 0 l a) (at_line (outer ss) us.last) us → us.items ≡ [] → Read d l us (block_of ss us.last)
 all_read {d} us ss g e = record {
   same = g.same ∙ ap (λ xs. judge d (run (at_line (outer ss) us.last) xs)) e ∙ ap (judge d) (runs_end (at_line (outer ss) us.last));
   fault = g.behind.fault;
@@ -84,13 +85,13 @@ pub fine_is : {d : Dialect} {l : Lexed} {us : Left} {raw : Statement} → Read d
 fine_is {d} {l} {us} {raw} r n h = let q = sym r.fault ∙ n in (q, program_is d l raw (r.same ∙ ap (settle raw) h) q)
 
 -- the same by the code's names
-pub stuck_from : {d : Dialect} {l : Lexed} {ts : Left} (us : Left) → ts ≡ left_of 0 l → Sticks d (at_line (outer no_statements) ts.last) ts us → IsRefusal d l (fault_ahead us)
+pub stuck_from : {d : Dialect} {l : Lexed} {a : Aside} {ts : Left} (us : Left) → ts ≡ left_of 0 l a → Sticks d (at_line (outer no_statements) ts.last) ts us → IsRefusal d l (fault_ahead us)
 stuck_from {d} us w p = stuck_is us (subst (λ z. Sticks d (at_line (outer no_statements) z.last) z us) w p)
 
-pub broken_from : {d : Dialect} {l : Lexed} {n : ℕ} {ts : Left} (f : Spanned Rule) → ts ≡ left_of 0 l → Answers d (at_line (outer no_statements) ts.last) ts (Broken (finding_of f) n) → IsRefusal d l (by_rule (rule_view f.node) f.span)
-broken_from {d} {n = n} f w p = broken_is f (subst (λ z. Answers d (at_line (outer no_statements) z.last) z (Broken (finding_of f) n)) w p)
+pub broken_from : {d : Dialect} {l : Lexed} {a : Aside} {n : ℕ} {ts us : Left} (f : Spanned Rule) → ts ≡ left_of 0 l a → Answers d (at_line (outer no_statements) ts.last) ts (Broken (finding_of f) n) us → IsRefusal d l (by_rule (rule_view f.node) f.span)
+broken_from {d} {n = n} {us = us} f w p = broken_is f (subst (λ z. Answers d (at_line (outer no_statements) z.last) z (Broken (finding_of f) n) us) w p)
 
-pub read_from : {d : Dialect} {l : Lexed} {ts : Left} (us : Left) (ss : Sequence) → ts ≡ left_of 0 l → Goes d (at_line (outer no_statements) ts.last) ts (at_line (outer ss) us.last) us → us.items ≡ [] → Read d l us (block_of ss us.last)
+pub read_from : {d : Dialect} {l : Lexed} {a : Aside} {ts : Left} (us : Left) (ss : Sequence) → ts ≡ left_of 0 l a → Goes d (at_line (outer no_statements) ts.last) ts (at_line (outer ss) us.last) us → us.items ≡ [] → Read d l us (block_of ss us.last)
 read_from {d} us ss w g e = all_read us ss (subst (λ z. Goes d (at_line (outer no_statements) z.last) z (at_line (outer ss) us.last) us) w g) e
 
 -- the reason that was given
@@ -110,3 +111,7 @@ whole_text {l = l} h p = record { lexed = l; lexes = h; no_fault = p.0; program 
 pub whole_texts : {A : Type 0} (d : Dialect) {text : List ℕ} {l : Lexed} (r : Result A Refused) (says : A → Statement) → Lex start text l → IfOk r (λ x. (l.fault ≡ None) × IsProgram d (uncommented l).items (says x)) → IfOk r (λ x. Language d text (says x))
 whole_texts d (Ok x) says h p = whole_text h p
 whole_texts d (Err e) says h p = tt
+
+-- the tokens of all that a lexer has left
+pub opened : {t : Left} {l m n : Lexed} {a b : Aside} → t ≡ left_of 0 l a → m ≡ l → n ≡ m → a ≡ b → t ≡ left_of 0 n b
+opened {t} {l} {m} {n} {a} {b} w p q r = w ∙ ap (λ z. left_of 0 z a) (sym (q ∙ p)) ∙ ap (λ z. left_of 0 n z) r

@@ -142,7 +142,7 @@ right_ends {d} l t o q e f p k ts h n = record { same = go ts.items n; behind = 
         ∙ ap (λ z. judge d (arrive x xs None z)) (right_step l t o q e f p k x.lexeme x.begin x.end (λ v. n (ap Some v)))
         ∙ ap (judge d) (sym (runs (behind_small (tree.assign (target_of l) t o q (stretch p e)) k) x xs))
 
-pub right_broken : {d : Dialect} (l : tree.Expr) (t : tree.Annotation) (o : Option AssignOp) (q : tree.Expr) (e f p : ℕ) (k : Line) (ts : Left) (r : Option (Spanned Rule)) (g : Spanned Rule) → r ≡ Some g → maybe_finding r ≡ assignment_fault l t o → first_lexeme ts.items ≢ Some comma → Answers d (has q e (listed tree.none f (right l t o p k))) ts (Broken (finding_of g) (length ts.items))
+pub right_broken : {d : Dialect} (l : tree.Expr) (t : tree.Annotation) (o : Option AssignOp) (q : tree.Expr) (e f p : ℕ) (k : Line) (ts : Left) (r : Option (Spanned Rule)) (g : Spanned Rule) → r ≡ Some g → maybe_finding r ≡ assignment_fault l t o → first_lexeme ts.items ≢ Some comma → Answers d (has q e (listed tree.none f (right l t o p k))) ts (Broken (finding_of g) (length ts.items)) ts
 right_broken l t o q e f p k ts r g w h n = broken ts (assigned l t o) (finding_of g) (right_met l t o q e f p k (first_lexeme ts.items) n) (sym h ∙ ap maybe_finding w)
 
 -- what was assigned, by another name

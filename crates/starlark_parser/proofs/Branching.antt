@@ -93,7 +93,7 @@ loop_ends {d} l k e ts h = record { same = go ts.items; behind = same_end }
     go [] = ap (judge d) (runs_end (behind_for l k e)) ∙ ap (λ o. answer o 0 (judge d (end_line k e))) h ∙ ap (judge d) (sym (runs_end (at_line k e)))
     go (x ∷ xs) = ap (judge d) (runs (behind_for l k e) x xs) ∙ ap (λ o. answer o (length (x ∷ xs)) (judge d (arrive x xs None (step (at_line k e) x)))) h ∙ ap (judge d) (sym (runs (at_line k e) x xs))
 
-pub loop_broken : {d : Dialect} (l : Expr) (k : Blocks) (e : ℕ) (ts : Left) (o : Option (Spanned Rule)) (g : Spanned Rule) → o ≡ Some g → maybe_finding o ≡ target_fault l → Answers d (behind_for l k e) ts (Broken (finding_of g) (length ts.items))
+pub loop_broken : {d : Dialect} (l : Expr) (k : Blocks) (e : ℕ) (ts : Left) (o : Option (Spanned Rule)) (g : Spanned Rule) → o ≡ Some g → maybe_finding o ≡ target_fault l → Answers d (behind_for l k e) ts (Broken (finding_of g) (length ts.items)) ts
 loop_broken l k e ts o g w h = broken ts (looped l) (finding_of g) refl (sym h ∙ ap maybe_finding w)
 
 -- the name of a `def`

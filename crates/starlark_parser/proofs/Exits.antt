@@ -22,13 +22,13 @@ use Rattle.starlark_parser.proofs.Steps.{arrive, runs, runs_end, passes_on, stay
 
 -- where the tokens end
 pub same_end : {ts : Left} → SameEnd ts ts
-same_end = record { fault = refl; last = refl }
+same_end = record { fault = refl; last = refl; aside = refl }
 
 pub then_end : {ts us vs : Left} → SameEnd ts us → SameEnd us vs → SameEnd ts vs
-then_end p q = record { fault = q.fault ∙ p.fault; last = q.last ∙ p.last }
+then_end p q = record { fault = q.fault ∙ p.fault; last = q.last ∙ p.last; aside = q.aside ∙ p.aside }
 
 pub passes_end : {ts us : Left} {x : Item} → Passes ts x us → SameEnd ts us
-passes_end {ts} {us} {x} p = record { fault = p.fault; last = ap (λ n. last_end n us.items) p.last ∙ sym (ap (last_end ts.last) p.items) }
+passes_end {ts} {us} {x} p = record { fault = p.fault; last = ap (λ n. last_end n us.items) p.last ∙ sym (ap (last_end ts.last) p.items); aside = p.aside }
 
 infixl 5 ◌>>◌
 pub ◌>>◌ : {d : Dialect} {s t u : State} {a b c : Left} → Goes d s a t b → Goes d t b u c → Goes d s a u c
@@ -37,8 +37,8 @@ p >> q = record { same = p.same ∙ q.same; behind = then_end p.behind q.behind 
 pub sticks : {d : Dialect} {s t : State} {a b c : Left} → Goes d s a t b → Sticks d t b c → Sticks d s a c
 sticks p q = record { same = p.same ∙ q.same; behind = then_end p.behind q.behind }
 
-pub answers : {d : Dialect} {s t : State} {a b : Left} {v : Verdict} → Goes d s a t b → Answers d t b v → Answers d s a v
-answers p q = record { same = p.same ∙ q.same }
+pub answers : {d : Dialect} {s t : State} {a b c : Left} {v : Verdict} → Goes d s a t b → Answers d t b v c → Answers d s a v c
+answers p q = record { same = p.same ∙ q.same; aside = q.aside ∙ p.behind.aside }
 
 pub begins : {d : Dialect} {s : State} {ts : Left} → Goes d s ts s ts
 begins = record { same = refl; behind = same_end }
@@ -105,16 +105,16 @@ refuses {d} {A} p = record {
 }
 
 -- a rule is broken
-pub halts : {d : Dialect} {A : Type 0} {s : State} {t : A → State} {before after : Left} {f : Spanned Rule} → Answers d s before (Broken (finding_of f) (length after.items)) → Comes d s t before (Err (e.Broken f)) after
+pub halts : {d : Dialect} {A : Type 0} {s : State} {t : A → State} {before after : Left} {f : Spanned Rule} → Answers d s before (Broken (finding_of f) (length after.items)) after → Comes d s t before (Err (e.Broken f)) after
 halts {d} {A} {s} {t} {before} {after} {f} p = record {
   comes = λ x v. absurd (let n : ◌≡◌ {A = Result A Error} (Err (e.Broken f)) (Ok x) = v in (cc));
   stuck = λ v. absurd (let n : ◌≡◌ {A = Result A Error} (Err (e.Broken f)) (Err e.Unexpected) = v in (cc));
-  breaks = λ g v. let n : ◌≡◌ {A = Result A Error} (Err (e.Broken f)) (Err (e.Broken g)) = v in let z : f ≡ g = cc in subst (λ y. Answers d s before (Broken (finding_of y) (length after.items))) z p;
+  breaks = λ g v. let n : ◌≡◌ {A = Result A Error} (Err (e.Broken f)) (Err (e.Broken g)) = v in let z : f ≡ g = cc in subst (λ y. Answers d s before (Broken (finding_of y) (length after.items)) after) z p;
 }
 
 -- a construct is met there that breaks a rule
-pub broken : {d : Dialect} {s : State} (ts : Left) (v : Event) (f : Finding) → met s (first_lexeme ts.items) ≡ Some v → broken_at d v ts.items ≡ Some f → Answers d s ts (Broken f (length ts.items))
-broken {d} {s} ts v f m b = record { same = go ts.items m b }
+pub broken : {d : Dialect} {s : State} (ts : Left) (v : Event) (f : Finding) → met s (first_lexeme ts.items) ≡ Some v → broken_at d v ts.items ≡ Some f → Answers d s ts (Broken f (length ts.items)) ts
+broken {d} {s} ts v f m b = record { same = go ts.items m b; aside = refl }
   where
     go : (xs : List Item) → met s (first_lexeme xs) ≡ Some v → broken_at d v xs ≡ Some f → judge d (run s xs) ≡ Broken f (length xs)
     go [] m b = ap (judge d) (runs_end s ∙ ap (λ o. note [] o (finish s)) m) ∙ ap (λ o. answer o 0 (judge d (finish s))) b

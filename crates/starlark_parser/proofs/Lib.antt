@@ -31,6 +31,11 @@ pub mod NotLonger
 pub mod NestedExpressions
 pub mod NestedStatements
 pub mod NestedTrees
+pub mod EndsOfExpressions
+pub mod EndsOfStatements
+pub mod EndsOfRules
+pub mod EndsOfMarks
+pub mod EndsOfRefusals
 pub mod Examples
 mod ExamplesOfExpressions
 mod ExamplesOfStatements
@@ -58,3 +63,5 @@ pub mod Signing
 pub mod Answering
 pub mod Making
 pub mod Faulting
+pub mod Ended
+pub mod Costing

@@ -62,7 +62,7 @@ list_goes_on {d} k n ms m e f ts h t = subst (λ z. Goes d (behind_comma k (tree
     go (in_clause p b l cs k) [] t = absurd (cc)
     go (in_clause p b l cs k) (x ∷ xs) t = ap (judge d) (runs (stands (member_wanted (targets_in p b l cs) (tree.more ms m) true e f) k) x xs) ∙ skips (begins_test (x ∷ xs)) _ _ _ t ∙ ap (judge d) (sym (runs (wants 7 (inside (member (targets_in p b l cs) (tree.more ms m) f x.begin an_item) k)) x xs))
 
-pub list_broken : {d : Dialect} (k : Unbracketed) (ms : tree.Members) (m : tree.Member) (e f : ℕ) (ts : Left) → begins_test ts.items ≡ false → Answers d (behind_comma k (tree.more ms m) f e) ts (Broken (breaks TrailingComma (stretch f e)) (length ts.items))
+pub list_broken : {d : Dialect} (k : Unbracketed) (ms : tree.Members) (m : tree.Member) (e f : ℕ) (ts : Left) → begins_test ts.items ≡ false → Answers d (behind_comma k (tree.more ms m) f e) ts (Broken (breaks TrailingComma (stretch f e)) (length ts.items)) ts
 list_broken (in_statement k) ms m e f ts h = broken ts (shaped after_comma (stretch f e)) (breaks TrailingComma (stretch f e)) refl (ap (λ b. cond (not b) (Some (breaks TrailingComma (stretch f e))) None) h)
 list_broken (in_clause p b l cs k) ms m e f ts h = broken ts (shaped after_comma (stretch f e)) (breaks TrailingComma (stretch f e)) refl (ap (λ b. cond (not b) (Some (breaks TrailingComma (stretch f e))) None) h)
 
@@ -95,7 +95,7 @@ over_ends {d} p b m cs t q e k ts h = record { same = go ts.items; behind = same
     go [] = ap (judge d) (runs_end (has q e (inside (over p b m cs t) k))) ∙ ap (λ o. answer o 0 (judge d (Stuck []))) h ∙ ap (judge d) (sym (runs_end (stands (clauses_read p b m (tree.and_clause cs (tree.for_clause (target_of t) q))) k)))
     go (x ∷ xs) = ap (judge d) (runs (has q e (inside (over p b m cs t) k)) x xs) ∙ ap (λ o. answer o (length (x ∷ xs)) (judge d (arrive x xs None (step (has q e (inside (over p b m cs t) k)) x)))) h ∙ ap (λ o. judge d (arrive x xs None o)) (or_none _) ∙ ap (judge d) (sym (runs (stands (clauses_read p b m (tree.and_clause cs (tree.for_clause (target_of t) q))) k) x xs))
 
-pub over_broken : {d : Dialect} (p : Bracket) (b : ℕ) (m : tree.Member) (cs : tree.Clauses) (t q : tree.Expr) (e : ℕ) (k : Frames) (ts : Left) (o : Option (Spanned Rule)) (g : Spanned Rule) → o ≡ Some g → maybe_finding o ≡ target_fault t → Answers d (has q e (inside (over p b m cs t) k)) ts (Broken (finding_of g) (length ts.items))
+pub over_broken : {d : Dialect} (p : Bracket) (b : ℕ) (m : tree.Member) (cs : tree.Clauses) (t q : tree.Expr) (e : ℕ) (k : Frames) (ts : Left) (o : Option (Spanned Rule)) (g : Spanned Rule) → o ≡ Some g → maybe_finding o ≡ target_fault t → Answers d (has q e (inside (over p b m cs t) k)) ts (Broken (finding_of g) (length ts.items)) ts
 over_broken p b m cs t q e k ts o g w h = broken ts (looped t) (finding_of g) refl (sym h ∙ ap maybe_finding w)
 
 pub right_target : (t : tree.Expr) (o : Option (Spanned Rule)) → o ≡ None → maybe_finding o ≡ target_fault t → target_fault t ≡ None
@@ -124,9 +124,9 @@ pub list_goes_on_with : {d : Dialect} (k : Unbracketed) (n : ℕ) (ms : tree.Mem
 list_goes_on_with k n tree.none e f ts w h t = absurd (w refl)
 list_goes_on_with k n (tree.more ms m) e f ts w h t = list_goes_on k n ms m e f ts h t
 
-pub list_broken_with : {d : Dialect} (k : Unbracketed) (ms : tree.Members) (e f : ℕ) (ts : Left) (s : Extent) → s ≡ stretch f e → ms ≢ tree.none → begins_test ts.items ≡ false → Answers d (behind_comma k ms f e) ts (Broken (breaks TrailingComma s) (length ts.items))
+pub list_broken_with : {d : Dialect} (k : Unbracketed) (ms : tree.Members) (e f : ℕ) (ts : Left) (s : Extent) → s ≡ stretch f e → ms ≢ tree.none → begins_test ts.items ≡ false → Answers d (behind_comma k ms f e) ts (Broken (breaks TrailingComma s) (length ts.items)) ts
 list_broken_with k tree.none e f ts s q w h = absurd (w refl)
-list_broken_with {d} k (tree.more ms m) e f ts s q w h = subst (λ z. Answers d (behind_comma k (tree.more ms m) f e) ts (Broken (breaks TrailingComma z) (length ts.items))) (sym q) (list_broken k ms m e f ts h)
+list_broken_with {d} k (tree.more ms m) e f ts s q w h = subst (λ z. Answers d (behind_comma k (tree.more ms m) f e) ts (Broken (breaks TrailingComma z) (length ts.items)) ts) (sym q) (list_broken k ms m e f ts h)
 
 pub list_ends_with : {d : Dialect} (k : Unbracketed) (ms : tree.Members) (q : tree.Expr) (e f : ℕ) (ts : Left) → ms ≢ tree.none → first_lexeme ts.items ≢ Some comma → Goes d (has q e (one_of k ms f)) ts (has (tree.tuple (tree.more ms (tree.item q)) (stretch f e)) e (one_of k tree.none f)) ts
 list_ends_with k tree.none q e f ts w n = absurd (w refl)

@@ -80,7 +80,7 @@ begins_other (x ∷ xs) h = go (nat_eq (sort equal) (sort x.lexeme)) refl
     go false e = e
     go true e = absurd (h (ap Some (same_sort equal x.lexeme (refl, refl) e)))
 
-pub no_equal : {d : Dialect} (p : ℕ) (m : Name) (ss : Symbols) (n : List ℕ) (s : Extent) (k : Line) (ts : Left) → first_lexeme ts.items ≢ Some equal → Answers d (load_equal p m ss (name_at n s) k) ts (Broken (breaks LoadIdentifier s) (length ts.items))
+pub no_equal : {d : Dialect} (p : ℕ) (m : Name) (ss : Symbols) (n : List ℕ) (s : Extent) (k : Line) (ts : Left) → first_lexeme ts.items ≢ Some equal → Answers d (load_equal p m ss (name_at n s) k) ts (Broken (breaks LoadIdentifier s) (length ts.items)) ts
 no_equal p m ss n s k ts h = broken ts (shaped after_symbol s) (breaks LoadIdentifier s) refl (ap (λ b. cond (not b) (Some (breaks LoadIdentifier s)) None) (begins_other ts.items h))
 
 -- the name in the other module

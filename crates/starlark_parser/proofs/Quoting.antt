@@ -58,7 +58,7 @@ no_conversion : (o : Option (List ℕ)) → converted o ≡ None → some_conver
 no_conversion None h = refl
 no_conversion (Some n) h = ap is_some h
 
-no_letter_there : {d : Dialect} (b : ℕ) (f : List ℕ) (ms : tree.Members) (q : tree.Expr) (g h : ℕ) (k : Frames) (ts : Left) → conversion_ahead ts.items ≡ None → Answers d (stands (letter_wanted b f ms q g h) k) ts (Broken (breaks FStringConversion (stretch g (conversion_end (stretch g h).end ts.items))) (length ts.items))
+no_letter_there : {d : Dialect} (b : ℕ) (f : List ℕ) (ms : tree.Members) (q : tree.Expr) (g h : ℕ) (k : Frames) (ts : Left) → conversion_ahead ts.items ≡ None → Answers d (stands (letter_wanted b f ms q g h) k) ts (Broken (breaks FStringConversion (stretch g (conversion_end (stretch g h).end ts.items))) (length ts.items)) ts
 no_letter_there b f ms q g h k ts n = broken ts (shaped after_bang (stretch g h)) (breaks FStringConversion (stretch g (conversion_end (stretch g h).end ts.items))) refl (ap (λ b. cond (not b) (Some (breaks FStringConversion (stretch g (conversion_end (stretch g h).end ts.items)))) None) (go ts.items n))
   where
     go : (xs : List Item) → conversion_ahead xs ≡ None → converts xs ≡ false
@@ -92,8 +92,8 @@ some_ahead xs s h e = absurd (let w : None ≡ Some s = sym (ap conversion_ahead
 pub put : {d : Dialect} {s : State} {ts us : Left} (b : ℕ) (f g : List ℕ) (ms : tree.Members) (k : Frames) → Goes d s ts (stands (piece_wanted b f ms) k) us → g ≡ f → Goes d s ts (stands (piece_wanted b g ms) k) us
 put b f g ms k p h = state_is p (ap (λ z. stands (piece_wanted b z ms) k) (sym h))
 
-pub no_letter : {d : Dialect} (b : ℕ) (f : List ℕ) (ms : tree.Members) (q : tree.Expr) (g h : ℕ) (k : Frames) (ts : Left) (o : Option (Bor (List ℕ))) (s : Extent) → o ≡ None → MatchOption o (conversion_ahead ts.items ≡ None) (λ l. conversion_ahead ts.items ≡ Some l.now) → s ≡ stretch g (conversion_end (stretch g h).end ts.items) → Answers d (stands (letter_wanted b f ms q g h) k) ts (Broken (breaks FStringConversion s) (length ts.items))
-no_letter {d} b f ms q g h k ts None s e n w = subst (λ z. Answers d (stands (letter_wanted b f ms q g h) k) ts (Broken (breaks FStringConversion z) (length ts.items))) (sym w) (no_letter_there b f ms q g h k ts n)
+pub no_letter : {d : Dialect} (b : ℕ) (f : List ℕ) (ms : tree.Members) (q : tree.Expr) (g h : ℕ) (k : Frames) (ts : Left) (o : Option (Bor (List ℕ))) (s : Extent) → o ≡ None → MatchOption o (conversion_ahead ts.items ≡ None) (λ l. conversion_ahead ts.items ≡ Some l.now) → s ≡ stretch g (conversion_end (stretch g h).end ts.items) → Answers d (stands (letter_wanted b f ms q g h) k) ts (Broken (breaks FStringConversion s) (length ts.items)) ts
+no_letter {d} b f ms q g h k ts None s e n w = subst (λ z. Answers d (stands (letter_wanted b f ms q g h) k) ts (Broken (breaks FStringConversion z) (length ts.items)) ts) (sym w) (no_letter_there b f ms q g h k ts n)
 no_letter b f ms q g h k ts (Some l) s e n w = absurd (let v : Some l ≡ None = e in (cc))
 
 pub letters : (ts : Left) (o : Option (Bor (List ℕ))) (l : Bor (List ℕ)) → o ≡ Some l → MatchOption o (conversion_ahead ts.items ≡ None) (λ l. conversion_ahead ts.items ≡ Some l.now) → conversion_ahead ts.items ≡ Some l.now

@@ -1,6 +1,6 @@
 -- What a refusal says to a caller.
-use Rattle.std.specs.Prelude.{◌≡◌, [], Option, Some, None, IsSome}
-use Rattle.starlark_place.specs.Place.{Extent, extent, File, file_place, Holds}
+use Rattle.std.specs.Prelude.{◌≡◌, [], Option, Some, None}
+use Rattle.starlark_place.specs.Place.{File, file_place}
 use Rattle.starlark_place.specs.Diagnostic.{inner_of, span_of, frames_of}
 use Rattle.starlark_place.specs.declared.diagnostic.WithDiagnostic.{WithDiagnostic}
 use Rattle.starlark_lexer.specs.declared.token.LexemeError.{LexemeError}
@@ -13,7 +13,7 @@ use Rattle.starlark_parser.specs.declared.fault.ParserErrorKind.{ParserErrorKind
 use Rattle.starlark_parser.specs.declared.fault.ParserErrorKind.TheVariants as kind
 use Rattle.starlark_parser.specs.declared.fault.EvalException.{EvalException}
 use Rattle.starlark_parser.specs.declared.fault.EvalException.TheVariants as exception
-use Rattle.starlark_parser.specs.Language.{Fault, IsRefused, by_lexer, unexpected, unexpected_end, by_rule}
+use Rattle.starlark_parser.specs.Language.{Fault, IsRefused, by_lexer, unexpected, unexpected_end, by_rule, place_of}
 
 abbrev pub kind_of : ParserError → ParserErrorKind
 kind_of (error.Lexer e) = kind.Lexer
@@ -34,24 +34,17 @@ reason_of error.Unexpected = of_token
 reason_of error.UnexpectedEnd = of_end
 reason_of (error.Rule r) = of_rule (rule_view r)
 
--- the reason of a refusal, and its place
+-- the reason of a refusal
 abbrev pub reason : Fault → Reason
 reason (by_lexer e s) = of_lexer e
 reason (unexpected s) = of_token
 reason (unexpected_end n) = of_end
 reason (by_rule r s) = of_rule r
 
-abbrev pub place_of : Fault → Extent
-place_of (by_lexer e s) = s
-place_of (unexpected s) = s
-place_of (unexpected_end n) = extent n n
-place_of (by_rule r s) = s
-
--- The fault says the reason. It has a place: that of the reason, where this lies in the text and cuts no character. It has no calls.
+-- The fault says the reason, at its place, and no calls.
 pub record Shows (f : Fault) (file : File) (w : WithDiagnostic ParserError) : Type 0 where
   pub why : reason_of (inner_of w) ≡ reason f
-  pub at : Holds file.source (place_of f) → span_of w ≡ Some (file_place file (place_of f))
-  pub placed : IsSome (span_of w)
+  pub at : span_of w ≡ Some (file_place file (place_of f))
   pub calls : frames_of w ≡ []
 
 -- what is answered for a refusal: that, unless memory runs out

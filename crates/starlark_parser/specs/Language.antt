@@ -1,6 +1,6 @@
 -- What is in the language, and what a refusal says: the sections "What is in the language" and "Refusals" of docs/LANGUAGE.md. Tokens are those without comments, with the lexer's fault behind them where there is one.
 use Rattle.std.specs.Prelude.{ℕ, ◌≡◌, ◌≢◌, ◌∷◌, ◌++◌, [], suc, if◌then◌else◌, Bool, true, false, List, Option, Some, None, map, length}
-use Rattle.starlark_place.specs.Place.{Extent}
+use Rattle.starlark_place.specs.Place.{Extent, extent}
 use Rattle.starlark_parser.specs.Spans.{stretch}
 use Rattle.starlark_lexer.specs.Items.{Lexeme, comment, identifier, equal, Item, Stop, Lexed}
 use Rattle.starlark_lexer.specs.Lex.{Lex, start}
@@ -91,6 +91,13 @@ pub data Fault : Type 0 where
   unexpected : Extent → Fault
   unexpected_end : ℕ → Fault
   by_rule : Rule → Extent → Fault
+
+-- its place
+abbrev pub place_of : Fault → Extent
+place_of (by_lexer e s) = s
+place_of (unexpected s) = s
+place_of (unexpected_end n) = extent n n
+place_of (by_rule r s) = s
 
 -- the first reason why the tokens are refused
 pub data IsRefusal (dialect : Dialect) (l : Lexed) : Fault → Type 0 where

@@ -17,9 +17,13 @@ pub mod Verdicts
 pub mod Language
 pub mod Longer
 pub mod Nested
+pub mod Ends
 pub mod Spans
 pub mod Kinds
+pub mod Comments
+pub mod Asides
 pub mod Reads
+pub mod Counted
 pub mod Made
 pub mod Gathered
 pub mod Assigning
@@ -29,3 +33,4 @@ pub mod Refused
 pub mod Faults
 pub mod Trees
 pub mod Modules
+pub mod Costs

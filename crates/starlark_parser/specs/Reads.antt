@@ -11,8 +11,9 @@ use Rattle.starlark_rules.specs.Types.{type_fault}
 use Rattle.starlark_rules.specs.View.{finding_of}
 use Rattle.starlark_parser.specs.declared.error.Error.{Error}
 use Rattle.starlark_parser.specs.declared.error.Error.TheVariants as error
-use Rattle.starlark_parser.specs.declared.tokens.Lookahead.{Lookahead}
-use Rattle.starlark_parser.specs.declared.tokens.Lookahead.TheVariants as ahead
+use Rattle.starlark_parser.specs.declared.feed.Lookahead.{Lookahead}
+use Rattle.starlark_parser.specs.declared.feed.Lookahead.TheVariants as ahead
+use Rattle.starlark_parser.specs.Asides.{Aside}
 use Rattle.starlark_parser.specs.Nodes.{type_at}
 use Rattle.starlark_parser.specs.Sorts.{name_of}
 use Rattle.starlark_parser.specs.Tables.{Bracket, Kind, targets, Beginning, signed, beginning, begins_at, Suffix, joined, suffix, grade_of}
@@ -23,11 +24,13 @@ use Rattle.starlark_parser.specs.Verdicts.{Verdict, judge}
 use Rattle.starlark_parser.specs.Verdicts as verdict
 use Rattle.starlark_parser.specs.Language.{last_end}
 
--- what is left to read: the tokens and the fault behind them, and where the last token ends that was read
+-- what is left to read: the tokens and the fault behind them, where the last token ends that was read, and what is told
+-- of the whole text beside its tokens, which no reading changes
 pub record Left : Type 0 where
   pub last : ℕ
   pub items : List Item
   pub fault : Option Stop
+  pub aside : Aside
 
 -- what the lexer has left, with the one token that was asked for ahead
 abbrev pub with_ahead : Lookahead → Lexed → Lexed
@@ -35,8 +38,8 @@ with_ahead (ahead.Token s x) l = with_item s.begin (lexeme_of x) s.end l
 with_ahead ahead.End l = nothing
 with_ahead (ahead.Fault e s) l = with_fault s.begin e s.end
 
-abbrev pub left_of : ℕ → Lexed → Left
-left_of n l = record { last = n; items = l.items; fault = l.fault }
+abbrev pub left_of : ℕ → Lexed → Aside → Left
+left_of n l a = record { last = n; items = l.items; fault = l.fault; aside = a }
 
 -- the first token
 abbrev pub first_lexeme : List Item → Option Lexeme
@@ -94,11 +97,13 @@ pub record Passes (old : Left) (x : Item) (new : Left) : Type 0 where
   pub items : old.items ≡ x ∷ new.items
   pub fault : new.fault ≡ old.fault
   pub last : new.last ≡ x.end
+  pub aside : new.aside ≡ old.aside
 
 -- nothing but tokens that were read lies between
 pub record SameEnd (ts us : Left) : Type 0 where
   pub fault : us.fault ≡ ts.fault
   pub last : last_end us.last us.items ≡ last_end ts.last ts.items
+  pub aside : us.aside ≡ ts.aside
 
 -- from s at the tokens ts the machine comes to u at the tokens us, and all that it meets there is right
 pub record Goes (d : Dialect) (s : State) (ts : Left) (u : State) (us : Left) : Type 0 where
@@ -110,16 +115,17 @@ pub record Sticks (d : Dialect) (s : State) (ts us : Left) : Type 0 where
   pub same : judge d (run s ts.items) ≡ verdict.Unexpected us.items
   pub behind : SameEnd ts us
 
--- from s at the tokens ts the answer is that
-pub record Answers (d : Dialect) (s : State) (ts : Left) (v : Verdict) : Type 0 where
+-- from s at the tokens ts the answer is that, at the tokens us
+pub record Answers (d : Dialect) (s : State) (ts : Left) (v : Verdict) (us : Left) : Type 0 where
   pub same : judge d (run s ts.items) ≡ v
+  pub aside : us.aside ≡ ts.aside
 
 -- The machine comes from s at the tokens before to the state of the result at the tokens after, or it
 -- is stuck at the tokens after, or a rule is broken there.
 pub record Comes {A : Type 0} (d : Dialect) (s : State) (t : A → State) (before : Left) (r : Result A Error) (after : Left) : Type 0 where
   pub comes : (x : A) → r ≡ Ok x → Goes d s before (t x) after
   pub stuck : r ≡ Err error.Unexpected → Sticks d s before after
-  pub breaks : (f : Spanned Rule) → r ≡ Err (error.Broken f) → Answers d s before (verdict.Broken (finding_of f) (length after.items))
+  pub breaks : (f : Spanned Rule) → r ≡ Err (error.Broken f) → Answers d s before (verdict.Broken (finding_of f) (length after.items)) after
 
 -- What waits for a list without brackets: something in a statement, or a clause of a comprehension.
 pub data Unbracketed : Type 0 where

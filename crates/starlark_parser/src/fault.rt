@@ -1,7 +1,9 @@
 //! Why a text is refused, with its place.
 
-ghost use Rattle.std.specs.Prelude.{◌≡◌};
+ghost use Rattle.std.specs.Prelude.{◌≡◌, IfSome};
+ghost use Rattle.starlark_place.specs.Place.{Holds};
 ghost use Rattle.starlark_parser.specs.Faults.{Tells, kind_of};
+ghost use Rattle.starlark_parser.specs.Language.{place_of};
 ghost use Rattle.starlark_parser.specs.Refused.{fault_of};
 
 use crate::refused::Refused;
@@ -85,8 +87,9 @@ impl<T: Drop> From<AllocFailed<T>> for EvalException {
     }
 }
 
-/// The refusal with its place in the file: where that cut a character or left the text, the whole of it.
+/// The refusal with its place in the file.
 pub(crate) fn refusal(alloc: Global, refused: Refused, codemap: &CodeMap) -> EvalException
+    requires { IfSome (fault_of refused) (λ f. Holds codemap.now.source (place_of f)) }
     ensures { Tells (fault_of refused) codemap.now result }
 {
     let (error, span) = match refused {
@@ -96,12 +99,7 @@ pub(crate) fn refusal(alloc: Global, refused: Refused, codemap: &CodeMap) -> Eva
         Refused::Rule(found) => (ParserError::Rule(found.node), found.span),
         Refused::Memory => return EvalException::Memory,
     };
-    let place = if codemap.holds(span) {
-        span
-    } else {
-        codemap.full_span()
-    };
-    match WithDiagnostic::new_spanned(alloc, error, place, codemap) {
+    match WithDiagnostic::new_spanned(alloc, error, span, codemap) {
         Ok(fault) => EvalException::Fault(fault),
         Err(_) => EvalException::Memory,
     }

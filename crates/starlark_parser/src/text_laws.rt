@@ -1,15 +1,18 @@
 //! Laws of the language as a set of texts.
 
 ghost use Rattle.std.specs.Prelude.{List, length, ◌≡◌, ◌⊎◌, ℕ};
+ghost use Rattle.std.specs.Str.{IsCharBoundary, IsUtf8};
+ghost use Rattle.starlark_place.specs.Place.{Holds};
 ghost use Rattle.starlark_parser.specs.Spans.{stretch};
 ghost use Rattle.starlark_lexer.specs.Items.{Lexed};
 ghost use Rattle.starlark_lexer.specs.Lex.{Lex, start};
 ghost use Rattle.starlark_lexer.specs.declared.dialect.Dialect.{Dialect};
 ghost use Rattle.starlark_ast.specs.Tree.{Statement};
-ghost use Rattle.starlark_parser.specs.Language.{Fault, IsRefused, Language};
+ghost use Rattle.starlark_parser.specs.Language.{Fault, IsRefused, Language, place_of};
+ghost use Rattle.starlark_parser.specs.Ends.{StatementAt};
 ghost use Rattle.starlark_parser.specs.Nested.{StatementIn};
 
-use starlark_lexer::laws::{in_order, one_reading};
+use starlark_lexer::laws::{in_order, one_reading, whole_characters};
 
 /// A text has one tree with its places at most.
 pub fn one_tree()
@@ -36,4 +39,12 @@ pub fn nested_places()
     ensures { (dialect : Dialect) (text : List ℕ) (tree : Statement) → Language dialect text tree → StatementIn (stretch 0 (length text)) tree }
 {
     in_order();
+}
+
+/// The place of a refusal lies in the text and cuts no character, and so does each place in the tree of a text.
+pub fn held_places()
+    ensures refusal { (dialect : Dialect) (text : List ℕ) (f : Fault) → IsUtf8 text → IsRefused dialect text f → Holds text (place_of f) }
+    ensures tree { (dialect : Dialect) (text : List ℕ) (tree : Statement) → IsUtf8 text → Language dialect text tree → StatementAt (IsCharBoundary text) tree }
+{
+    whole_characters();
 }

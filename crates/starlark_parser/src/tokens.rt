@@ -1,66 +1,51 @@
 //! The tokens of a text, with one token of look-ahead.
 
-ghost use Rattle.std.specs.Prelude.{◌≡◌, ◌≢◌, [], IfOk, MatchOption, Some, None, true, string_bytes, Err, max};
+ghost use Rattle.std.specs.Prelude.{◌≡◌, ◌≢◌, ◌≤◌, [], IfOk, MatchOption, Some, None, true, string_bytes, Err, max};
 ghost use Rattle.std.specs.Bool.{MatchBool};
 ghost use Rattle.starlark_place.specs.declared.pos.Spanned.{Spanned};
 ghost use Rattle.starlark_lexer.specs.Items.{item, lexeme_of, identifier, string};
 ghost use Rattle.starlark_rules.specs.declared.rule.Rule.{Rule};
+ghost use Rattle.starlark_parser.specs.Asides.{ahead_end, aside_of};
 ghost use Rattle.starlark_parser.specs.Events.{conversion_end};
 ghost use Rattle.starlark_parser.specs.Gathered.{conversion_ahead};
 ghost use Rattle.starlark_parser.specs.Kinds.{kind_ahead, is_plain, token_of};
-ghost use Rattle.starlark_parser.specs.Language.{is_comment, uncommented};
+ghost use Rattle.starlark_parser.specs.Language.{uncommented};
 ghost use Rattle.starlark_parser.specs.Nodes.{start};
 ghost use Rattle.starlark_parser.specs.Spans.{stretch};
 ghost use Rattle.starlark_parser.specs.Verdicts.{begins_test};
 ghost use Rattle.starlark_parser.specs.Refused.{fault_ahead, fault_of};
 ghost use Rattle.starlark_parser.specs.Reads.{left_of, with_ahead, first_lexeme, grade_ahead, name_ahead, string_ahead, Passes};
 
+use crate::cost::Cost;
 use crate::error::Error;
+use crate::feed::{Comments, Feed, Lookahead};
 use crate::kind::{Kind, kind_of};
 use crate::refused::Refused;
-use starlark_lexer::lexer::Lexer;
-use starlark_lexer::token::{LexemeError, Token};
-use starlark_place::diagnostic::Refusal;
+use starlark_lexer::token::Token;
 use starlark_place::pos::{Pos, Span, Spanned};
 use std::alloc::{AllocError, Global};
 use std::marker::Model;
 use std::mem;
 
-/// What the lexer gave last.
-#[derive(Drop)]
-enum Lookahead {
-    Token(Span, Token),
-    End,
-    Fault(LexemeError, Span),
-}
-
-/// The tokens that are still to be read, comments left out. A clause sees them, the fault behind them, and where the
-/// last one ends that was read.
+/// The tokens that are still to be read, comments left out. A clause sees them, the fault behind them, where the last one
+/// ends that was read, and what is told of the whole text beside them.
 #[derive(Drop)]
 pub(crate) struct Tokens<'a> {
     alloc: Global,
-    lexer: Lexer<'a>,
+    feed: Feed<'a>,
     ahead: Lookahead,
     last: Pos,
 }
 
 impl<'a> Model for Tokens<'a> {
-    ghost use Rattle.starlark_parser.specs.Language.{uncommented};
-    ghost use Rattle.starlark_parser.specs.Reads.{Left, left_of, with_ahead};
+    ghost use Rattle.starlark_parser.specs.Counted.{left_in, IsCounted};
+    ghost use Rattle.starlark_parser.specs.Reads.{Left};
 
     ghost Value = { Left };
 
-    ghost view = { λ a. left_of a.last (with_ahead a.ahead (uncommented a.lexer.left)) };
-}
+    ghost view = { left_in };
 
-/// Whether the token is a comment.
-fn is_comment(token: &Token) -> bool
-    ensures { result ≡ is_comment (lexeme_of token.now) }
-{
-    match token {
-        Token::Comment(_) => true,
-        _ => false,
-    }
+    ghost invariant = { IsCounted };
 }
 
 /// The place itself, whose end is not before its beginning.
@@ -70,42 +55,37 @@ fn place(span: &Span) -> Span
     Span::new(span.begin(), span.end())
 }
 
-/// What the lexer gives next that is no comment.
-fn fetch(lexer: &mut Lexer) -> Result<Lookahead, AllocError>
-    ensures { IfOk result (λ a. uncommented lexer.old.left ≡ with_ahead a (uncommented lexer.new.left)) }
-{
-    while let Some(answer) = lexer.next() {
-        match answer {
-            Ok((begin, token, end)) => {
-                if !is_comment(&token) {
-                    let span = Span::new(Pos::new(begin as u32), Pos::new(end as u32));
-                    return Ok(Lookahead::Token(span, token));
-                }
-            }
-            Err(Refusal::Memory) => return Err(AllocError),
-            Err(Refusal::Fault(fault)) => {
-                let Some(place) = fault.span() else {
-                    unreachable!();
-                };
-                return Ok(Lookahead::Fault(*fault.inner(), place.span));
-            }
-        }
-    }
-    Ok(Lookahead::End)
-}
-
 impl<'a> Tokens<'a> {
-    /// All that the lexer has left.
-    pub(crate) fn new(alloc: Global, mut lexer: Lexer<'a>) -> Result<Tokens<'a>, AllocError>
-        ensures { IfOk result (λ t. t ≡ left_of 0 (uncommented lexer.entry.left)) }
+    /// What the lexer gave first, and all that it has left.
+    pub(crate) fn new(alloc: Global, feed: Feed<'a>, ahead: Lookahead) -> Tokens<'a>
+        requires asked { 1 ≤ feed.asks }
+        requires reached { ahead_end ahead ≤ feed.lexer.place }
+        ensures { result ≡ left_of 0 (with_ahead ahead (uncommented feed.entry.lexer.left)) (aside_of ahead feed.entry) }
     {
-        let ahead = fetch(&mut lexer)?;
-        Ok(Tokens {
+        Tokens {
             alloc,
-            lexer,
+            feed,
             ahead,
             last: Pos::new(0),
-        })
+        }
+    }
+
+    /// What the reading took so far.
+    pub(crate) fn cost(&self) -> Cost
+        ensures some { 1 ≤ result.asks }
+        ensures most { result.asks ≤ self.now.aside.asks }
+        ensures whole { self.now.items ≡ [] → result.asks ≡ self.now.aside.asks }
+        ensures reads { self.now.last ≤ result.reads }
+    {
+        self.feed.cost()
+    }
+
+    /// The comments of the text, where no token is left.
+    pub(crate) fn into_comments(self) -> Comments
+        ensures places { self.entry.items ≡ [] → result.places.items ≡ self.entry.aside.comments }
+        ensures joined { self.entry.items ≡ [] → result.joined.items ≡ self.entry.aside.joined }
+    {
+        self.feed.into_comments()
     }
 
     /// Where memory comes from.
@@ -234,7 +214,7 @@ impl<'a> Tokens<'a> {
     {
         match mem::replace(&mut self.ahead, Lookahead::End) {
             Lookahead::Token(span, token) => {
-                self.ahead = fetch(&mut self.lexer)?;
+                self.ahead = self.feed.fetch()?;
                 self.last = span.end();
                 Ok(Some((token, span)))
             }

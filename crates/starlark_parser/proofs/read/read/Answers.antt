@@ -1,14 +1,16 @@
-use Rattle.starlark_parser.proofs.Answering.{refused_text, whole_texts}
+use Rattle.std.proofs.Common.{ap, sym}
+use Rattle.starlark_parser.specs.Language.{uncommented}
+use Rattle.starlark_parser.proofs.Answering.{opened, refused_text, whole_texts}
 use Rattle.starlark_parser.proofs.read.read.Goals as goal
 
 pub returns-clause-whole : goal.returns-clause-whole
-returns-clause-whole g c = c.program.ensures.whole _ c.in_ok-tokens.ensures
+returns-clause-whole g c = c.program-answer.ensures.whole _ _ (opened c.new-tokens.ensures c.in-Ok.ensures.tokens (sym (ap (λ z. uncommented z.left) c.new-feed.ensures.lexer)) c.in-Ok.ensures.aside)
 
 pub returns-clause-refused : goal.returns-clause-refused
-returns-clause-refused g c = c.program.ensures.refused _ c.in_ok-tokens.ensures
+returns-clause-refused g c = c.program-answer.ensures.refused _ _ (opened c.new-tokens.ensures c.in-Ok.ensures.tokens (sym (ap (λ z. uncommented z.left) c.new-feed.ensures.lexer)) c.in-Ok.ensures.aside)
 
 pub returns-clause-language : goal.returns-clause-language
-returns-clause-language g c text h = whole_texts _ _ _ h (c.program.ensures.whole _ c.in_ok-tokens.ensures)
+returns-clause-language g c text h = whole_texts _ _ _ h (c.program-answer.ensures.whole _ _ (opened c.new-tokens.ensures c.in-Ok.ensures.tokens (sym (ap (λ z. uncommented z.left) c.new-feed.ensures.lexer)) c.in-Ok.ensures.aside))
 
 pub returns-clause-reason : goal.returns-clause-reason
-returns-clause-reason g c text e f h q w = refused_text h (c.program.ensures.refused _ c.in_ok-tokens.ensures e f q w)
+returns-clause-reason g c text e f h q w = refused_text h (c.program-answer.ensures.refused _ _ (opened c.new-tokens.ensures c.in-Ok.ensures.tokens (sym (ap (λ z. uncommented z.left) c.new-feed.ensures.lexer)) c.in-Ok.ensures.aside) e f q w)

@@ -1,0 +1,29 @@
+-- What the reading of a text costs.
+use Rattle.std.specs.Prelude.{◌≡◌, ◌≤◌, ℕ, suc, List, length, Result, Ok, Err}
+use Rattle.starlark_lexer.specs.Items.{Lexed}
+use Rattle.starlark_lexer.specs.Lex.{Lex, start}
+use Rattle.starlark_parser.specs.declared.cost.Cost.{Cost}
+use Rattle.starlark_parser.specs.declared.fault.EvalException.{EvalException}
+use Rattle.starlark_parser.specs.declared.fault.EvalException.TheVariants as exception
+use Rattle.starlark_parser.specs.declared.module.AstModule.{AstModule}
+
+-- The text was read to its end: one ask for each lexeme and one for the end, and each byte was looked at.
+pub record IsWhole (text : List ℕ) (c : Cost) : Type 0 where
+  pub lexed : Lexed
+  pub lexes : Lex start text lexed
+  pub asks : c.asks ≡ suc (length lexed.items)
+  pub reads : length text ≤ c.reads
+
+-- It was read until it was refused: nothing is asked for behind the fault or the end.
+pub record IsPartly (text : List ℕ) (c : Cost) : Type 0 where
+  pub lexed : Lexed
+  pub lexes : Lex start text lexed
+  pub some : 1 ≤ c.asks
+  pub most : c.asks ≤ suc (length lexed.items)
+
+-- the cost of a reading with that answer
+abbrev pub Costs : List ℕ → Result AstModule EvalException → Cost → Type 0
+Costs text (Ok m) c = IsWhole text c
+Costs text (Err (exception.Fault w)) c = IsPartly text c
+Costs text (Err exception.TooLong) c = c ≡ record { reads = 0; asks = 0 }
+Costs text (Err exception.Memory) c = Unit {0}
