@@ -1,0 +1,9 @@
+pub mod Places
+pub mod Closed
+pub mod Flat
+pub mod Walks
+pub mod Held
+pub mod Keeping
+pub mod Reading
+pub mod Iterating
+pub mod Counting

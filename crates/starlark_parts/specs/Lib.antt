@@ -1,0 +1,10 @@
+pub mod Kept
+pub mod Tops
+pub mod Outlines
+pub mod Edits
+pub mod Cursor
+pub mod Flat
+pub mod Walk
+pub mod Held
+pub mod Left
+pub mod Holding
