@@ -5,36 +5,8 @@
 //! after a fault, which it names on standard error.
 #![tactic(auto)]
 
-mod ahead;
-#[cfg(test)]
-mod case_tests;
-mod command;
-mod cursor;
-mod device;
-#[cfg(test)]
-mod device_tests;
-mod engine;
-mod fault;
-pub mod grammar_laws;
-pub mod laws;
-mod parse;
-mod part;
-mod parts;
-mod reading;
-mod reply;
-pub mod script_laws;
-mod status;
-#[cfg(test)]
-mod tests;
-mod tokens;
-mod tree;
-mod write;
-
-pub use device::{Sink, Source, Watched};
-pub use engine::{run, run_with};
-pub use fault::{End, RunFault};
 use starlark_lexer::dialect::Dialect;
-pub use status::{fault_line, status};
+use starlark_script::{Watched, fault_line, run, status};
 use std::process::ExitCode;
 
 fn main(rt: HostRuntime) -> ExitCode {

@@ -1,0 +1,10 @@
+pub mod Known
+pub mod Lines
+pub mod Taking
+pub mod Cutting
+pub mod Blocks
+pub mod Edits
+pub mod Outlined
+pub mod Runs
+pub mod Examples
+pub mod EditLaws

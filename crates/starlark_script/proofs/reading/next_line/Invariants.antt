@@ -1,0 +1,17 @@
+use Rattle.std.proofs.Common.{◌≡◌, ◌≤◌, ◌-◌, false, take}
+use Rattle.std.specs.Io.KnownBytes.{Consumes}
+use Rattle.starlark_script.specs.Coming.{coming, weight}
+use Rattle.starlark_script.specs.Device.{CountsOn}
+use Rattle.starlark_script.proofs.Lines.{No}
+use Rattle.starlark_script.proofs.reading.next_line.Given as goal
+
+abbrev pub invariant-loop-i : goal.invariant-loop-i
+invariant-loop-i g l = record {
+  plain : No 10 (take l.i l.line);
+  taken : Consumes (coming l.fn.ahead (g.R.Read.remaining l.fn.reader)) (coming l.ahead (g.R.Read.remaining l.reader)) (take l.i l.line);
+  sound : g.R.Source.has_failed l.reader ≡ false;
+  lighter : weight l.ahead ≤ weight l.fn.ahead;
+  count : CountsOn (l.fn.ahead.reads - l.ahead.reads) (g.R.Source.reads l.fn.reader) (g.R.Source.reads l.reader);
+  fewer : l.ahead.reads ≤ l.fn.ahead.reads;
+  ends : g.R.Source.ends l.reader ≡ g.R.Source.ends l.fn.reader;
+}

@@ -1,0 +1,33 @@
+//! Laws of edits and of outlines.
+
+ghost use Rattle.std.specs.Prelude.{◌≡◌, ◌≤◌, ◌⊎◌, ℕ, List, length};
+ghost use Rattle.starlark_lexer.specs.declared.dialect.Dialect.{Dialect};
+ghost use Rattle.starlark_parts.specs.Edits.{Refuses, Takes};
+ghost use Rattle.starlark_parts.specs.Kept.{Edit, edited, inserts, removes};
+ghost use Rattle.starlark_parts.specs.Outlines.{AreOutlines};
+ghost use Rattle.starlark_parts.specs.declared.fault.PartFault.{PartFault};
+ghost use Rattle.starlark_parts.specs.declared.word.OutlineItem.{OutlineItem};
+ghost use Rattle.starlark_script.specs.Laws.{SayTheSame};
+
+use starlark_parser::text_laws::{one_refusal, one_tree};
+
+/// Texts one behind another have one outline at most.
+pub fn one_outline()
+    ensures { (dialect : Dialect) (n : ℕ) (texts : List (List ℕ)) (xs ys : List OutlineItem) → AreOutlines dialect n texts xs → AreOutlines dialect n texts ys → xs ≡ ys }
+{
+    one_tree();
+}
+
+/// An edit that is taken may be refused for want of memory alone, and want of memory aside it is refused for one reason
+/// at most.
+pub fn taken_or_refused()
+    ensures taken { (dialect : Dialect) (limit : ℕ) (texts : List (List ℕ)) (edit : Edit) (f : PartFault) → Takes dialect limit texts edit → Refuses dialect limit texts edit f → f ≡ PartFault.Memory }
+    ensures one { (dialect : Dialect) (limit : ℕ) (texts : List (List ℕ)) (edit : Edit) (f g : PartFault) → Refuses dialect limit texts edit f → Refuses dialect limit texts edit g → SayTheSame f g ⊎ ((f ≡ PartFault.Memory) ⊎ (g ≡ PartFault.Memory)) }
+{
+    one_refusal();
+}
+
+/// A part that is put in at an index and left out there again leaves the parts from before.
+pub fn inserted_then_removed()
+    ensures { (texts : List (List ℕ)) (k : ℕ) (text : List ℕ) → k ≤ length texts → edited (edited texts (inserts k text)) (removes k) ≡ texts }
+{}
