@@ -2,6 +2,7 @@
 
 use crate::answer::{Refused, codemap_of};
 use crate::{outline, tree};
+use starlark_ast::ast::AstStmt;
 use starlark_lexer::dialect::Dialect;
 use starlark_lexer::place::codemap::CodeMapId;
 use starlark_lexer::place::diagnostic::WithDiagnostic;
@@ -15,6 +16,8 @@ use std::fmt::Write;
 pub(crate) enum Shown {
     /// Where each statement at the top begins, and its word.
     Outline,
+    /// What the tree prints.
+    Print,
     /// Where each statement stands.
     Statements,
     /// The tree, a line for each node.
@@ -43,9 +46,15 @@ fn lines(alloc: Global, shown: Shown, text: &str, module: &AstModule) -> Result<
     let codemap = codemap_of(alloc, text)?;
     match shown {
         Shown::Outline => Ok(outline::outline(alloc, statement, &codemap)?),
+        Shown::Print => Ok(printed(alloc, statement)?),
         Shown::Statements => Ok(outline::statements(alloc, statement, &codemap)?),
         Shown::Tree => Ok(tree::answer(alloc, statement)?),
     }
+}
+
+/// What a tree prints.
+fn printed(alloc: Global, tree: &AstStmt) -> Result<String, AllocError> {
+    format!(in alloc; "{}", tree.node)
 }
 
 /// The line of a refusal: its place, and what is wrong there.

@@ -34,6 +34,7 @@ fn word_named(name: &str) -> Option<Word> {
     match name {
         "tokens" => Some(Word::Tokens),
         "outline" => Some(Word::Module(Shown::Outline)),
+        "print" => Some(Word::Module(Shown::Print)),
         "statements" => Some(Word::Module(Shown::Statements)),
         "tree" => Some(Word::Module(Shown::Tree)),
         _ => None,
