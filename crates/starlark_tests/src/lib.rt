@@ -20,6 +20,8 @@ mod numbers;
 #[cfg(test)]
 mod parsing;
 #[cfg(test)]
+mod prints;
+#[cfg(test)]
 mod rules;
 #[cfg(test)]
 mod spans;

@@ -59,3 +59,35 @@ fn refusals(rt: HostRuntime) -> Result<(), Fail> {
     }
     Ok(())
 }
+
+#[test]
+fn costs(rt: HostRuntime) -> Result<(), Fail> {
+    let alloc = rt.alloc();
+    let content = String::from_str(alloc, "foo\ndef x():\n   pass")?;
+    let (module, cost) = AstModule::parse_counted(
+        alloc,
+        CodeMapId(1),
+        "t",
+        content,
+        &Dialect::Standard,
+    );
+    assert!(&rt; module.is_ok());
+    assert_eq!(rt; cost.asks, 13);
+    assert!(&rt; cost.reads >= 20);
+    assert!(&rt; cost.reads <= 336);
+    Ok(())
+}
+
+#[test]
+fn comments(rt: HostRuntime) -> Result<(), Fail> {
+    let alloc = rt.alloc();
+    let Ok(module) = parse(alloc, "# a\n# b\nx = 1\n# c", &Dialect::Standard)? else {
+        return Err(Fail::from(AllocError));
+    };
+    let comments = module.comments();
+    assert_eq!(rt; comments.len(), 3);
+    assert_eq!(rt; comments[0], span(0, 3));
+    assert_eq!(rt; comments[1], span(4, 7));
+    assert_eq!(rt; comments[2], span(14, 17));
+    Ok(())
+}
