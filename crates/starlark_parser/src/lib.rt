@@ -44,3 +44,6 @@ pub mod text_laws;
 mod tokens;
 mod trees;
 mod types;
+
+pub use starlark_ast as ast;
+pub use starlark_rules as rules;
