@@ -5,13 +5,14 @@ use Rattle.std.specs.List.{All, flat_map}
 use Rattle.std.proofs.lemmas.List.{length-map, map-append, take-append-drop}
 use Rattle.std.proofs.lemmas.List.Elements.{All-cons, All-head, All-nil, All-tail}
 use Rattle.std.proofs.lemmas.List.Sums.{sum_by-append}
-use Rattle.starlark_place.specs.Place.{is_feed, line_at, line_feeds}
+use Rattle.starlark_place.specs.Place.{File, is_feed, line_at, line_feeds}
 use Rattle.starlark_lexer.specs.Joining.{IsClosed}
 use Rattle.starlark_lexer.specs.declared.dialect.Dialect.{Dialect}
 use Rattle.starlark_ast.specs.Tree.{Statement, statement_place}
 use Rattle.starlark_ast.specs.View.{stmt_at}
 use Rattle.starlark_parser.specs.Language.{Language}
 use Rattle.starlark_parser.specs.Modules.{file_of, tree_of}
+use Rattle.starlark_parser.specs.declared.fault.EvalException.{EvalException}
 use Rattle.starlark_parser.specs.declared.module.AstModule.{AstModule}
 use Rattle.starlark_parts.specs.Flat.{IsFlat}
 use Rattle.starlark_parts.specs.Held.{AllAbove, AreParts, IsPart, items_of, outline_from, statements_of, text_of, texts_of}
@@ -56,6 +57,10 @@ pub ok_part : (dialect : Dialect) (m : AstModule) (text : List ℕ) (r : Result 
     → IfOk r (λ p. p.read ≡ m) → IfOk r (λ _. IsClosed (file_of m).source) → IfOk r (λ p. AreItems (file_of m).source (tree_of m) (items_of p)) → IfOk r (λ p. p.feeds ≡ line_feeds (file_of m).source) → IfOk r (IsPart dialect)
 ok_part dialect m text (Ok p) same language flat e closed items feeds = is_part dialect p m e (subst (λ t. Language dialect t (tree_of m)) (sym same) language) flat closed items feeds
 ok_part dialect m text (Err f) same language flat e closed items feeds = tt
+
+-- the text of a module that is answered
+pub source_of : (r : Result AstModule EvalException) (m : AstModule) (f : File) → r ≡ Ok m → IfOk r (λ m. file_of m ≡ f) → (file_of m).source ≡ f.source
+source_of r m f is h = ap (λ f. f.source) (subst (λ (r : Result AstModule EvalException). IfOk r (λ m. file_of m ≡ f)) is h)
 
 -- ---- several
 

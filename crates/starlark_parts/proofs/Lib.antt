@@ -5,5 +5,6 @@ pub mod Walks
 pub mod Held
 pub mod Keeping
 pub mod Reading
+pub mod Spending
 pub mod Iterating
 pub mod Counting

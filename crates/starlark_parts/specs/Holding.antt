@@ -5,7 +5,7 @@ use Rattle.starlark_parts.specs.Kept.{Kept, joined}
 use Rattle.starlark_parts.specs.declared.parts.Parts.TheInside.{Inside}
 
 abbrev pub kept : Inside → Kept
-kept a = record { texts = texts_of a.parts.items; limit = a.limit; dialect = a.dialect }
+kept a = record { texts = texts_of a.parts.items; limit = a.limit; dialect = a.dialect; cost = a.cost }
 
 -- each part is closed and read, and the size is that of all
 pub record IsHeld (a : Inside) : Type 0 where

@@ -2,6 +2,7 @@ pub mod Kept
 pub mod Tops
 pub mod Outlines
 pub mod Edits
+pub mod Spent
 pub mod Cursor
 pub mod Flat
 pub mod Walk

@@ -9,6 +9,7 @@ ghost use Rattle.starlark_ast.specs.View.{stmt_at};
 ghost use Rattle.starlark_parts.specs.Flat.{AreWorded, IsFlat};
 ghost use Rattle.starlark_parts.specs.Held.{IsPart, IsRead, MissesEnd, RefusesBytes, RefusesText, Resolves, items_of, statements_of, text_of};
 ghost use Rattle.starlark_parts.specs.Outlines.{AreItems};
+ghost use Rattle.starlark_parts.specs.Spent.{SpentOn, nothing_read};
 ghost use Rattle.starlark_parts.specs.Walk.{left};
 
 use crate::cursor::{Cursor, reach};
@@ -18,6 +19,7 @@ use crate::top::TopLevel;
 use crate::word::{OutlineItem, Word};
 use starlark_ast::ast::AstStmt;
 use starlark_lexer::dialect::Dialect;
+use starlark_parser::cost::Cost;
 use starlark_parser::fault::{EvalException, ParserError};
 use starlark_parser::fields::AstModuleFields;
 use starlark_parser::module::AstModule;
@@ -155,15 +157,29 @@ fn closed(alloc: Global, read: AstModule) -> Result<Part, PartFault>
 }
 
 // reads a text alone
-fn read_text(alloc: Global, dialect: &Dialect, text: &str) -> Result<Part, PartFault>
+fn read_text(
+    alloc: Global,
+    dialect: &Dialect,
+    text: &str,
+    cost: &mut Cost,
+) -> Result<Part, PartFault>
     requires { length text.now ≤ 4294967295 }
     ensures text { IfOk result (λ p. text_of p ≡ text.now) }
     ensures ok { IfOk result (λ p. IsPart dialect.now p) }
     ensures err { IfErr result (λ f. RefusesText dialect.now text.now f) }
+    ensures cost { SpentOn text.now result cost.new }
 {
     good_trees();
     let content = String::from_str(alloc, text)?;
-    match AstModule::parse(alloc, CodeMapId::EMPTY, "part", content, dialect) {
+    let (module, spent) = AstModule::parse_counted(
+        alloc,
+        CodeMapId::EMPTY,
+        "part",
+        content,
+        dialect,
+    );
+    *cost = spent;
+    match module {
         Ok(module) => closed(alloc, module),
         Err(EvalException::TooLong) => unreachable!(),
         Err(EvalException::Fault(fault)) => Err(refusal(alloc, fault)),
@@ -171,16 +187,19 @@ fn read_text(alloc: Global, dialect: &Dialect, text: &str) -> Result<Part, PartF
     }
 }
 
-/// Reads bytes alone, for which there is so much room.
+/// Reads bytes alone, for which there is so much room, and adds what that took to a cost that is nothing yet.
 pub(crate) fn read_part(
     alloc: Global,
     dialect: &Dialect,
     bytes: &[u8],
     room: u64,
+    cost: &mut Cost,
 ) -> Result<Part, PartFault>
-    requires { room ≤ 4294967295 }
+    requires room { room ≤ 4294967295 }
+    requires cost { cost.old ≡ nothing_read }
     ensures ok { IfOk result (λ p. IsRead dialect.now room bytes.now p) }
     ensures err { IfErr result (λ f. RefusesBytes dialect.now room bytes.now f) }
+    ensures cost { SpentOn bytes.now result cost.new }
 {
     let Ok(text) = str::from_utf8(bytes) else {
         return Err(PartFault::Utf8);
@@ -188,5 +207,5 @@ pub(crate) fn read_part(
     if text.len() as u64 > room {
         return Err(PartFault::Long);
     }
-    read_text(alloc, dialect, text)
+    read_text(alloc, dialect, text, cost)
 }

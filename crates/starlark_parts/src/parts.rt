@@ -5,6 +5,7 @@ ghost use Rattle.starlark_parts.specs.Edits.{Answers};
 ghost use Rattle.starlark_parts.specs.Kept.{inserts, joined, moves, removes, replaces};
 ghost use Rattle.starlark_parts.specs.Left.{statements_left};
 ghost use Rattle.starlark_parts.specs.Outlines.{AreAllStatements, AreOutlines};
+ghost use Rattle.starlark_parts.specs.Spent.{Spends, nothing_read};
 
 use crate::fault::PartFault;
 use crate::items::Items;
@@ -13,6 +14,7 @@ use crate::part::{Part, read_part};
 use crate::statements::Statements;
 use crate::word::OutlineItem;
 use starlark_lexer::dialect::Dialect;
+use starlark_parser::cost::Cost;
 use std::alloc::{AllocError, Global};
 use std::marker::Model;
 
@@ -26,6 +28,8 @@ pub struct Parts {
     parts: Vec<Part>,
     // how many bytes the joined text has
     size: u64,
+    // what the reading of the last edit took
+    cost: Cost,
 }
 
 impl Model for Parts {
@@ -46,6 +50,7 @@ impl Parts {
         ensures texts { result.texts ≡ [] }
         ensures limit { result.limit ≡ 4294967295 }
         ensures dialect { result.dialect ≡ dialect.now }
+        ensures cost { result.cost ≡ nothing_read }
     {
         Parts::with_limit(alloc, dialect, u32::MAX)
     }
@@ -55,6 +60,7 @@ impl Parts {
         ensures texts { result.texts ≡ [] }
         ensures limit { result.limit ≡ limit }
         ensures dialect { result.dialect ≡ dialect.now }
+        ensures cost { result.cost ≡ nothing_read }
     {
         Parts {
             alloc,
@@ -62,6 +68,7 @@ impl Parts {
             limit,
             parts: Vec::new(alloc),
             size: 0,
+            cost: Cost::NONE,
         }
     }
 
@@ -88,12 +95,14 @@ impl Parts {
         ensures edit { Answers self.old (inserts index bytes.now) result self.new.texts }
         ensures limit { self.new.limit ≡ self.old.limit }
         ensures dialect { self.new.dialect ≡ self.old.dialect }
+        ensures cost { Spends (inserts index bytes.now) result self.new.cost }
     {
+        self.cost = Cost::NONE;
         if index > self.parts.len() {
             return Err(PartFault::Index);
         }
         let room = self.limit as u64 - self.size;
-        let part = read_part(self.alloc, &self.dialect, bytes, room)?;
+        let part = read_part(self.alloc, &self.dialect, bytes, room, &mut self.cost)?;
         list::put(&mut self.parts, index, part)?;
         self.size += bytes.len() as u64;
         Ok(())
@@ -105,13 +114,15 @@ impl Parts {
         ensures edit { Answers self.old (replaces index bytes.now) result self.new.texts }
         ensures limit { self.new.limit ≡ self.old.limit }
         ensures dialect { self.new.dialect ≡ self.old.dialect }
+        ensures cost { Spends (replaces index bytes.now) result self.new.cost }
     {
+        self.cost = Cost::NONE;
         if index >= self.parts.len() {
             return Err(PartFault::Index);
         }
         let others = self.size - self.parts[index].text().len() as u64;
         let room = self.limit as u64 - others;
-        let part = read_part(self.alloc, &self.dialect, bytes, room)?;
+        let part = read_part(self.alloc, &self.dialect, bytes, room, &mut self.cost)?;
         list::exchange(&mut self.parts, index, part);
         self.size = others + bytes.len() as u64;
         Ok(())
@@ -122,7 +133,9 @@ impl Parts {
         ensures edit { Answers self.old (removes index) result self.new.texts }
         ensures limit { self.new.limit ≡ self.old.limit }
         ensures dialect { self.new.dialect ≡ self.old.dialect }
+        ensures cost { Spends (removes index) result self.new.cost }
     {
+        self.cost = Cost::NONE;
         if index >= self.parts.len() {
             return Err(PartFault::Index);
         }
@@ -137,7 +150,9 @@ impl Parts {
         ensures edit { Answers self.old (moves from to) result self.new.texts }
         ensures limit { self.new.limit ≡ self.old.limit }
         ensures dialect { self.new.dialect ≡ self.old.dialect }
+        ensures cost { Spends (moves from to) result self.new.cost }
     {
+        self.cost = Cost::NONE;
         if from >= self.parts.len() {
             return Err(PartFault::Index);
         }
@@ -146,6 +161,14 @@ impl Parts {
         }
         list::move_entry(&mut self.parts, from, to);
         Ok(())
+    }
+
+    /// What the reading of the last edit took: nothing in a new list, behind `remove` and `move_part`, and behind an edit
+    /// that was refused before its text was read. Where memory ran out it is what was spent until then.
+    pub fn last_cost(&self) -> Cost
+        ensures { result ≡ self.now.cost }
+    {
+        self.cost
     }
 
     /// The statements at the top of all parts, in order, with their beginnings in the joined text. No memory is taken,

@@ -1,5 +1,5 @@
-//! Tests of scripts: devices that fail, limits, the scripts of `starlark_outline` by short reads and writes. It has no
-//! code of its own, so the crate of scripts is proved once.
+//! Tests of scripts: devices that fail, limits, the scripts of `starlark_outline` by short reads and writes; and of parts.
+//! It has no code of its own, so the crates below it are proved once.
 #![tactic(auto)]
 
 #[cfg(test)]
@@ -8,3 +8,5 @@ mod cases;
 mod devices;
 #[cfg(test)]
 mod limits;
+#[cfg(test)]
+mod parts;

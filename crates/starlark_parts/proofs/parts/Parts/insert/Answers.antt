@@ -5,12 +5,12 @@ use Rattle.starlark_parts.proofs.Keeping.{held_insert, insert_lacks, insert_refu
 use Rattle.starlark_parts.proofs.parts.Parts.insert.Goals as goal
 
 pub returns-then-index-len-clause-edit : goal.returns-then-index-len-clause-edit
-returns-then-index-len-clause-edit c = (no_insert c.self.inside c.args.self.now c.self.view_is c.self.invariant c.args.index c.args.bytes.now (omega (arith, c.if-index-len.true, c.len.ensures)), refl)
+returns-then-index-len-clause-edit c = (no_insert c.self.inside c.args.self.now c.self.view_is c.self.invariant c.args.index c.args.bytes.now (omega (arith, c.if-index-len.true, c.len.ensures)), texts_are c.self.inside c.args.self.now c.self.view_is c.self.invariant)
 
 pub returns-in_err-part-clause-edit : goal.returns-in_err-part-clause-edit
 returns-in_err-part-clause-edit c =
     let p = err_from_is_err_and c.from_residual.result c.from_residual.ensures.1 in
-    rw (p.1, p.2) (insert_refused c.self.inside c.args.self.now c.self.view_is c.self.invariant c.args.index c.args.bytes.now _ (omega (arith, c.if-index-len.false, c.len.ensures)) refl c.in_err-part.field-0.0 c.in_err-part.ensures.err, refl)
+    rw (p.1, p.2) (insert_refused c.self.inside c.args.self.now c.self.view_is c.self.invariant c.args.index c.args.bytes.now _ (omega (arith, c.if-index-len.false, c.len.ensures)) refl c.in_err-part.field-0.0 c.in_err-part.ensures.err, texts_are c.self.inside c.args.self.now c.self.view_is c.self.invariant)
 
 pub returns-in_err-put-clause-edit : goal.returns-in_err-put-clause-edit
 returns-in_err-put-clause-edit c =
@@ -28,3 +28,13 @@ returns-clause-edit c = (
   insert_taken c.self.inside c.args.self.now c.self.view_is c.self.invariant c.args.index c.args.bytes.now _ (omega (arith, c.if-index-len.false, c.len.ensures)) refl c.in_ok-part.part c.in_ok-part.ensures.ok,
   insert_texts c.self.inside c.args.self.now c.self.view_is c.args.index c.in_ok-part.part c.args.bytes.now c.put.new.xs.items c.in_ok-put.ensures c.in_ok-part.ensures.ok.same,
 )
+
+pub returns-in_err-part-clause-cost : goal.returns-in_err-part-clause-cost
+returns-in_err-part-clause-cost c =
+    let p = err_from_is_err_and c.from_residual.result c.from_residual.ensures.1 in
+    rw (p.1, p.2) c.in_err-part.ensures.cost
+
+pub returns-in_err-put-clause-cost : goal.returns-in_err-put-clause-cost
+returns-in_err-put-clause-cost c =
+    let p = err_from_is_err_and c.from_residual-in_err-put.result c.from_residual-in_err-put.ensures.1 in
+    rw (p.1, p.2) tt

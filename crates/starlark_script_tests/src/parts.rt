@@ -1,0 +1,161 @@
+//! Parts: each public call, the refusals in their order, and what a reading takes. A list is let go by `release`, so that
+//! the drops of trees are not proved once more.
+
+use starlark_lexer::dialect::Dialect;
+use starlark_parts::fault::PartFault;
+use starlark_parts::parts::Parts;
+use starlark_parts::word::{OutlineItem, Word};
+use std::alloc::{AllocError, Global};
+use std::process::Abort;
+use std::test::Fail;
+
+/// The words and beginnings, counted from 0, of an outline.
+type Shown = (Word, usize, usize);
+
+fn shown(item: &OutlineItem) -> Shown {
+    (item.word, item.begin.line, item.begin.column)
+}
+
+/// The outline, its items and the statements are these.
+fn is_outline(rt: &impl Abort, parts: &Parts, wanted: &[Shown]) -> Result<(), AllocError> {
+    let outline = parts.outline()?;
+    assert_eq!(rt; outline.len(), wanted.len());
+    assert!(rt; parts.items().len() == wanted.len() as u128);
+    let mut items = parts.items();
+    let mut statements = parts.statements();
+    for (item, want) in outline.iter().zip(wanted) {
+        assert_eq!(rt; shown(item), *want);
+        assert!(rt; items.next() == Some(*item));
+        let Some((statement, begin)) = statements.next() else {
+            panic!(rt; "a statement is missing")
+        };
+        assert!(rt; Word::of(statement) == Some(item.word));
+        assert_eq!(rt; begin, item.begin);
+    }
+    assert!(rt; items.next().is_none());
+    assert!(rt; statements.next().is_none());
+    Ok(())
+}
+
+fn edited(rt: &impl Abort, parts: &mut Parts) -> Result<(), Fail> {
+    assert_eq!(rt; (parts.len(), parts.last_cost().asks), (0, 0));
+    parts.insert(0, b"def f():\n  pass\n")?;
+    parts.insert(1, b"f(1)\n")?;
+    parts.insert(0, b"a = 2\n")?;
+    is_outline(
+        rt,
+        parts,
+        &[
+            (Word::Assign, 0, 0),
+            (Word::Def, 1, 0),
+            (Word::Expression, 3, 0),
+        ],
+    )?;
+    parts.replace(0, b"a = 2\n\n# c\n")?;
+    assert_eq!(rt;
+        parts.text()?.as_str(),
+        "a = 2\n\n# c\ndef f():\n  pass\nf(1)\n"
+    );
+    parts.move_part(0, 2)?;
+    is_outline(
+        rt,
+        parts,
+        &[
+            (Word::Def, 0, 0),
+            (Word::Expression, 2, 0),
+            (Word::Assign, 3, 0),
+        ],
+    )?;
+    assert_eq!(rt; parts.part(1), Some("f(1)\n"));
+    parts.remove(1)?;
+    assert_eq!(rt; (parts.len(), parts.part(2)), (2, None));
+    Ok(())
+}
+
+#[test]
+fn edits(rt: HostRuntime) -> Result<(), Fail> {
+    let mut parts = Parts::new(rt.alloc(), &Dialect::Standard);
+    let done = edited(&rt, &mut parts);
+    parts.release();
+    done
+}
+
+/// What is wrong with these bytes at that index: each text breaks all that is looked at behind the reason, too.
+static REFUSED: [(usize, &[u8], &str); 5] = [
+    (2, b"1 = 2 \xff", "there is no part at that index"),
+    (1, b"1 = 2 \xff", "the bytes are not UTF-8"),
+    (1, b"1 = 2", "the joined text would be too long"),
+    (1, b"1=2", "this may not be assigned to: part:1:1-2"),
+    (1, b"y", "the text is open"),
+];
+
+fn refused(rt: &impl Abort, alloc: Global, parts: &mut Parts) -> Result<(), Fail> {
+    parts.insert(0, b"x = 1\n")?;
+    for (index, bytes, wanted) in &REFUSED {
+        let Err(fault) = parts.insert(*index, bytes) else {
+            return Err(Fail::from("it is taken"));
+        };
+        assert_eq!(rt; fault.to_string(alloc)?.as_str(), *wanted);
+        assert_eq!(rt; parts.text()?.as_str(), "x = 1\n");
+    }
+    assert!(rt; matches!(parts.replace(1, b"y\n"), Err(PartFault::Index)));
+    assert!(rt; matches!(parts.replace(0, b"y = [1, 2]\n"), Err(PartFault::Long)));
+    assert!(rt; matches!(parts.remove(1), Err(PartFault::Index)));
+    assert!(rt; matches!(parts.move_part(0, 1), Err(PartFault::Index)));
+    Ok(())
+}
+
+#[test]
+fn refusals(rt: HostRuntime) -> Result<(), Fail> {
+    let mut parts = Parts::with_limit(rt.alloc(), &Dialect::Standard, 10);
+    let done = refused(&rt, rt.alloc(), &mut parts);
+    parts.release();
+    done
+}
+
+/// Nothing was read.
+fn costs_nothing(rt: &impl Abort, parts: &Parts) {
+    let cost = parts.last_cost();
+    assert_eq!(rt; (cost.reads, cost.asks), (0, 0));
+}
+
+/// A text of so many bytes was read to its end, with so many asks.
+fn costs(rt: &impl Abort, parts: &Parts, bytes: u32, asks: u64) {
+    let cost = parts.last_cost();
+    assert_eq!(rt; cost.asks, asks);
+    assert!(rt; bytes as u64 <= cost.reads);
+    assert!(rt; cost.reads <= 16 * (bytes as u64 + 1));
+}
+
+fn counted(rt: &impl Abort, parts: &mut Parts) -> Result<(), Fail> {
+    costs_nothing(rt, parts);
+    parts.insert(0, b"f(1)\n")?;
+    costs(rt, parts, 5, 7);
+    parts.insert(1, b"x = 1\n")?;
+    costs(rt, parts, 6, 6);
+    assert!(rt; matches!(parts.replace(0, b"x = 1"), Err(PartFault::Open)));
+    costs(rt, parts, 5, 5);
+    assert!(rt; matches!(parts.replace(2, b"x = 1\n"), Err(PartFault::Index)));
+    costs_nothing(rt, parts);
+    parts.replace(0, b"f(1)\n")?;
+    assert!(rt; matches!(parts.replace(0, b"\xff"), Err(PartFault::Utf8)));
+    costs_nothing(rt, parts);
+    assert!(rt; matches!(parts.replace(0, b"1=\n"), Err(PartFault::Parse(_, _))));
+    assert!(rt; parts.last_cost().asks > 0);
+    assert!(rt; parts.last_cost().asks <= 5);
+    parts.move_part(0, 1)?;
+    costs_nothing(rt, parts);
+    parts.insert(0, b"# c\n")?;
+    costs(rt, parts, 4, 3);
+    parts.remove(0)?;
+    costs_nothing(rt, parts);
+    Ok(())
+}
+
+#[test]
+fn costs_of_edits(rt: HostRuntime) -> Result<(), Fail> {
+    let mut parts = Parts::new(rt.alloc(), &Dialect::Standard);
+    let done = counted(&rt, &mut parts);
+    parts.release();
+    done
+}
