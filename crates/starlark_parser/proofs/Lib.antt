@@ -65,3 +65,7 @@ pub mod Making
 pub mod Faulting
 pub mod Ended
 pub mod Costing
+pub mod Alls
+pub mod Variants
+pub mod Located
+pub mod Bindings

@@ -33,4 +33,7 @@ pub mod Refused
 pub mod Faults
 pub mod Trees
 pub mod Modules
+pub mod Loaded
+pub mod Locations
+pub mod Shown
 pub mod Costs

@@ -1,8 +1,11 @@
-use Rattle.std.proofs.Common.{rules, ap, ◌∙◌}
+use Rattle.std.proofs.Common.{rules, ap, subst, ◌∙◌}
+use Rattle.std.specs.Str.{IsCharBoundary}
+use Rattle.starlark_ast.specs.View.{stmt_at}
+use Rattle.starlark_parser.specs.Ends.{StatementAt}
 use Rattle.starlark_parser.specs.Refused.{fault_of}
 use Rattle.starlark_parser.proofs.Costing.{refused_cost, whole_cost}
 use Rattle.starlark_parser.proofs.Faulting.{fault_told, fault_held}
-use Rattle.starlark_parser.proofs.module.module_of.Goals as goal
+use Rattle.starlark_parser.proofs.parsing.module_of.Goals as goal
 
 pub refusal-requires : goal.refusal-requires
 refusal-requires c = fault_held c.args.dialect.now c.source.result.now _ (fault_of c.in-Err.refused) c.source.ensures.is (λ f w. c.in-Err.ensures.reason c.source.result.now c.in-Err.refused f c.new-lexer.ensures.left (search rules) w) (λ f w. c.held_places.ensures.refusal c.args.dialect.now c.source.result.now f c.source.utf8 w)
@@ -15,3 +18,8 @@ returns-in-Err-clause-cost c = refused_cost _ (fault_of c.in-Err.refused) _ c.re
 
 pub returns-in-Ok-answer-clause-cost : goal.returns-in-Ok-answer-clause-cost
 returns-in-Ok-answer-clause-cost c = whole_cost (c.source.ensures.is ∙ ap (λ m. m.source) c.in-Ok.ensures.made) c.new-lexer.ensures.left c.in-Ok-answer.ensures.whole.0 (search rules) c.in_order.ensures.few c.in-Ok-answer.ensures.asks c.in-Ok-answer.ensures.reads
+
+pub invariant_of-result : goal.invariant_of-result
+invariant_of-result c = record {
+  held = ∣ subst (λ t. StatementAt (IsCharBoundary t) (stmt_at c.in-Ok-answer.statement)) c.source.ensures.is (c.held_places.ensures.tree c.args.dialect.now c.source.result.now (stmt_at c.in-Ok-answer.statement) c.source.utf8 (c.in-Ok-answer.ensures.language c.source.result.now c.new-lexer.ensures.left)) ∣₁;
+}

@@ -1,0 +1,11 @@
+//! Parts of f-strings.
+
+use starlark_ast::ast::{AstExpr, AstString};
+use starlark_lexer::token::FStringConv;
+
+/// A part of an f-string: text, or a field with its conversion.
+#[derive(Debug, Drop)]
+pub enum FStringElement {
+    Text(AstString),
+    Expr(AstExpr, FStringConv),
+}
