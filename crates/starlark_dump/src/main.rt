@@ -14,6 +14,7 @@ mod module;
 mod outline;
 mod query;
 mod quote;
+mod said;
 mod stream;
 mod tokens;
 mod tree;

@@ -1,7 +1,7 @@
 //! The words that show a tree: it is read, or refused by one line.
 
 use crate::answer::{Refused, codemap_of};
-use crate::{outline, tree};
+use crate::{outline, said, tree};
 use starlark_ast::ast::AstStmt;
 use starlark_lexer::dialect::Dialect;
 use starlark_lexer::place::codemap::CodeMapId;
@@ -14,6 +14,10 @@ use std::fmt::Write;
 /// What is shown of a tree.
 #[derive(Clone, Copy)]
 pub(crate) enum Shown {
+    /// Where the comments stand, and their texts.
+    Comments,
+    /// What is loaded.
+    Loads,
     /// Where each statement at the top begins, and its word.
     Outline,
     /// What the tree prints.
@@ -45,9 +49,11 @@ fn lines(alloc: Global, shown: Shown, text: &str, module: &AstModule) -> Result<
     let statement = module.statement();
     let codemap = codemap_of(alloc, text)?;
     match shown {
+        Shown::Comments => Ok(said::comments(alloc, module, &codemap)?),
+        Shown::Loads => Ok(said::loads(alloc, module)?),
         Shown::Outline => Ok(outline::outline(alloc, statement, &codemap)?),
         Shown::Print => Ok(printed(alloc, statement)?),
-        Shown::Statements => Ok(outline::statements(alloc, statement, &codemap)?),
+        Shown::Statements => Ok(said::statements(alloc, module)?),
         Shown::Tree => Ok(tree::answer(alloc, statement)?),
     }
 }

@@ -1,4 +1,4 @@
-//! The words `outline` and `statements`: where the statements of a tree stand.
+//! The word `outline`: where the statements at the top of a tree begin.
 
 use starlark_ast::ast::{AstStmt, Stmt};
 use starlark_ast::making::top_level_stmts;
@@ -39,54 +39,4 @@ fn word_of(x: &Stmt) -> &'static str {
         Stmt::Def(_) => "def",
         Stmt::Load(_) => "load",
     }
-}
-
-/// A line for each statement but lists, parents first: where it stands.
-pub(crate) fn statements(
-    alloc: Global,
-    tree: &AstStmt,
-    codemap: &CodeMap,
-) -> Result<String, AllocError> {
-    let mut out = String::new(alloc);
-    push_places(&mut out, tree, codemap)?;
-    Ok(out)
-}
-
-/// The places of a statement and of those within it.
-fn push_places(out: &mut String, x: &AstStmt, codemap: &CodeMap) -> Result<(), AllocError> {
-    match &x.node {
-        Stmt::Statements(xs) => {
-            for inner in xs {
-                push_places(out, inner, codemap)?;
-            }
-            Ok(())
-        }
-        Stmt::If(_, body) => {
-            push_place(out, x, codemap)?;
-            push_places(out, body, codemap)
-        }
-        Stmt::IfElse(_, bodies) => {
-            push_place(out, x, codemap)?;
-            push_places(out, &bodies.0, codemap)?;
-            push_places(out, &bodies.1, codemap)
-        }
-        Stmt::For(inner) => {
-            push_place(out, x, codemap)?;
-            push_places(out, &inner.body, codemap)
-        }
-        Stmt::Def(inner) => {
-            push_place(out, x, codemap)?;
-            push_places(out, &inner.body, codemap)
-        }
-        _ => push_place(out, x, codemap),
-    }
-}
-
-/// The line of a statement's place.
-fn push_place(out: &mut String, x: &AstStmt, codemap: &CodeMap) -> Result<(), AllocError> {
-    if codemap.holds(x.span) {
-        let place = codemap.resolve_span(x.span);
-        write!(out, "{place}\n")?;
-    }
-    Ok(())
 }

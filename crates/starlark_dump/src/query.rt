@@ -33,6 +33,8 @@ pub(crate) struct Query {
 fn word_named(name: &str) -> Option<Word> {
     match name {
         "tokens" => Some(Word::Tokens),
+        "comments" => Some(Word::Module(Shown::Comments)),
+        "loads" => Some(Word::Module(Shown::Loads)),
         "outline" => Some(Word::Module(Shown::Outline)),
         "print" => Some(Word::Module(Shown::Print)),
         "statements" => Some(Word::Module(Shown::Statements)),
