@@ -1,0 +1,5 @@
+//! Tests of maps of payloads. It has no code of its own, so the crate of maps is proved once, beside the rules.
+#![tactic(auto)]
+
+#[cfg(test)]
+mod maps;

@@ -1,0 +1,162 @@
+//! Payload maps that number their calls.
+
+ghost use Rattle.std.specs.Prelude.{◌≡◌, ◌≤◌};
+ghost use Rattle.starlark_place.specs.Place.{extent};
+
+use starlark_ast::ast::{
+    AssignIdent, AssignIdentP, AstIdent, AstIdentP, AstNoPayload, AstPayload, Comma, Ident, IdentP,
+    Load, LoadArgP, LoadP,
+};
+use starlark_ast::making::ToAst;
+use starlark_payload::payload_map::{
+    AssignIdentPExt, AstPayloadFunction, IdentPExt, IntoMapPayload,
+};
+use starlark_place::pos::{Pos, Span};
+use std::alloc::{AllocError, Global};
+use std::test::Fail;
+
+fn span(begin: u32, end: u32) -> Span
+    requires { begin ≤ end }
+    ensures { result ≡ extent begin end }
+{
+    Span::new(Pos::new(begin), Pos::new(end))
+}
+
+/// Numbers as payloads.
+#[derive(Debug)]
+struct Numbered;
+
+impl AstPayload for Numbered {
+    type LoadPayload = u8;
+
+    type IdentPayload = u8;
+
+    type IdentAssignPayload = u8;
+
+    type DefPayload = u8;
+
+    type TypeExprPayload = u8;
+}
+
+/// Gives each call its number, and tells whether a load was of the module `m`.
+#[derive(Drop)]
+struct Counter {
+    next: u8,
+    is_of_m: bool,
+}
+
+impl Counter {
+    fn new() -> Counter {
+        Counter {
+            next: 0,
+            is_of_m: false,
+        }
+    }
+
+    fn count(&mut self) -> u8
+        ensures { result ≡ self.old.next }
+    {
+        let number = self.next;
+        self.next = number.wrapping_add(1);
+        number
+    }
+}
+
+impl AstPayloadFunction<AstNoPayload, Numbered> for Counter {
+    ghost gives_load = { λ s p x y t. y ≡ s.next };
+
+    ghost gives_ident = { λ s x y t. y ≡ s.next };
+
+    ghost gives_ident_assign = { λ s x y t. y ≡ s.next };
+
+    ghost gives_def = { λ s x y t. y ≡ s.next };
+
+    ghost gives_type_expr = { λ s x y t. y ≡ s.next };
+
+    fn map_load(&mut self, import_path: &str, _a: ()) -> u8 {
+        self.is_of_m = import_path == "m";
+        self.count()
+    }
+
+    fn map_ident(&mut self, _a: ()) -> u8 {
+        self.count()
+    }
+
+    fn map_ident_assign(&mut self, _a: ()) -> u8 {
+        self.count()
+    }
+
+    fn map_def(&mut self, _a: ()) -> u8 {
+        self.count()
+    }
+
+    fn map_type_expr(&mut self, _a: ()) -> u8 {
+        self.count()
+    }
+}
+
+fn read(alloc: Global, text: &str) -> Result<Ident, AllocError> {
+    let ident = String::from_str(alloc, text)?;
+    Ok(IdentP { ident, payload: () })
+}
+
+fn assigned(alloc: Global, text: &str) -> Result<AssignIdent, AllocError> {
+    let ident = String::from_str(alloc, text)?;
+    Ok(AssignIdentP { ident, payload: () })
+}
+
+#[test]
+fn names(rt: HostRuntime) -> Result<(), Fail> {
+    let alloc = rt.alloc();
+    let mut counter = Counter::new();
+    let x: IdentP<Numbered> = read(alloc, "x")?.into_map_payload(alloc, &mut counter)?;
+    assert_eq!(rt; x.ident.as_str(), "x");
+    assert_eq!(rt; x.payload, 0);
+    let y: AssignIdentP<Numbered> = assigned(alloc, "y")?.into_map_payload(alloc, &mut counter)?;
+    assert_eq!(rt; y.ident.as_str(), "y");
+    assert_eq!(rt; y.payload, 1);
+    let z: AstIdentP<Numbered> = read(alloc, "z")?
+        .ast(2, 3)
+        .into_map_payload(alloc, &mut counter)?;
+    assert_eq!(rt; z.span, span(2, 3));
+    assert_eq!(rt; z.node.payload, 2);
+    let w = assigned(alloc, "w")?.ast(4, 5);
+    let w = AssignIdentPExt::into_map_payload::<Numbered, Counter>(w, alloc, &mut counter)?;
+    assert_eq!(rt; w.span, span(4, 5));
+    assert_eq!(rt; w.node.payload, 3);
+    Ok(())
+}
+
+#[test]
+fn loads(rt: HostRuntime) -> Result<(), Fail> {
+    let alloc = rt.alloc();
+    let arg = LoadArgP {
+        local: assigned(alloc, "a")?.ast(10, 13),
+        their: String::from_str(alloc, "a")?.ast(10, 13),
+        comma: Some(Comma.ast(13, 14)),
+    };
+    let load = Load {
+        module: String::from_str(alloc, "m")?.ast(5, 8),
+        args: vec![in alloc; arg]?,
+        payload: (),
+    };
+    let mut counter = Counter::new();
+    let load: LoadP<Numbered> = load.into_map_payload(alloc, &mut counter)?;
+    assert!(rt; counter.is_of_m);
+    assert_eq!(rt; counter.next, 2);
+    assert_eq!(rt; load.payload, 0);
+    for arg in &load.args {
+        assert_eq!(rt; arg.local.node.payload, 1);
+        assert_eq!(rt; arg.local.span, span(10, 13));
+        assert!(rt; arg.comma.is_some());
+    }
+    let arg = LoadArgP {
+        local: assigned(alloc, "b")?.ast(0, 1),
+        their: String::from_str(alloc, "c")?.ast(2, 3),
+        comma: None,
+    };
+    let arg: LoadArgP<Numbered> = arg.into_map_payload(alloc, &mut counter)?;
+    assert_eq!(rt; arg.local.node.payload, 2);
+    assert_eq!(rt; arg.their.node.as_str(), "c");
+    Ok(())
+}
