@@ -1,0 +1,8 @@
+//! Parsing for C. A text is passed as its bytes, which are UTF-8, and a slice as a pointer and a length. An allocator
+//! takes no bytes.
+#![tactic(auto)]
+
+pub mod parsing;
+pub mod switches;
+#[cfg(test)]
+mod tests;
