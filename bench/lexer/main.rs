@@ -1,11 +1,13 @@
 //! The lexer against another scanner, as a ratio taken in one run. `run.sh` builds it and runs it.
 
+#[path = "../peer.rs"]
+mod peer;
+
+use peer::Peer;
 use std::env;
 use std::fs;
-use std::hint::black_box;
-use std::path::{Path, PathBuf};
+use std::path::Path;
 use std::process::Command;
-use std::time::Instant;
 
 // a slice crosses as a pointer and a length, an allocator not at all
 unsafe extern "C" {
@@ -19,9 +21,6 @@ unsafe extern "C" {
         total: &mut u64,
     ) -> bool;
 }
-
-const ROUNDS: usize = 15;
-const RUNS: usize = 5;
 
 fn token_count(text: &str) -> u64 {
     let mut count = 0;
@@ -46,99 +45,9 @@ fn map(text: &str) {
     });
 }
 
-/// All files below a folder.
-fn files(folder: &Path) -> Vec<PathBuf> {
-    let mut found = Vec::new();
-    for entry in fs::read_dir(folder).expect("a folder") {
-        let path = entry.expect("an entry").path();
-        if path.is_dir() {
-            found.extend(files(&path));
-        } else {
-            found.push(path);
-        }
-    }
-    found.sort();
-    found
-}
-
 /// Whether our lexer finds no fault: behind a fault one more line changes nothing.
 fn is_ours(text: &str) -> bool {
     token_count(text) < token_count(&format!("{text}\nx\n"))
-}
-
-/// Nanoseconds a byte of some runs.
-struct Times {
-    median: f64,
-    least: f64,
-}
-
-/// The peer's times of some runs, or none where it finds a fault.
-fn peer(program: &str, file: &Path, runs: usize) -> Option<Times> {
-    let out = Command::new(program)
-        .args([
-            "bench".as_ref(),
-            file.as_os_str(),
-            runs.to_string().as_ref(),
-            "lex".as_ref(),
-        ])
-        .output()
-        .expect("the peer");
-    let text = String::from_utf8_lossy(&out.stdout).into_owned();
-    let shown = |name| {
-        text.split(name)
-            .nth(1)?
-            .split_whitespace()
-            .next()?
-            .parse()
-            .ok()
-    };
-    Some(Times {
-        median: shown("median_ns_per_byte=")?,
-        least: shown("min=")?,
-    })
-}
-
-/// Our times of some runs, after two to warm up, as the peer has it.
-fn own(text: &str, runs: usize, call: fn(&str) -> u64) -> Times {
-    call(text);
-    call(text);
-    let mut times = Vec::new();
-    for _ in 0..runs {
-        let begin = Instant::now();
-        black_box(call(black_box(text)));
-        times.push(begin.elapsed().as_nanos() as f64 / text.len() as f64);
-    }
-    Times {
-        least: times.iter().copied().fold(f64::INFINITY, f64::min),
-        median: median(times),
-    }
-}
-
-fn median(mut times: Vec<f64>) -> f64 {
-    times.sort_by(f64::total_cmp);
-    times[times.len() / 2]
-}
-
-/// The texts that both read without fault, one behind the other, each on lines of its own.
-fn joined(folder: &Path, program: &str) -> String {
-    let files = files(folder);
-    let (mut all, mut count) = (String::new(), 0);
-    for file in &files {
-        let Ok(text) = fs::read_to_string(file) else {
-            continue;
-        };
-        if !is_ours(&text) || peer(program, file, 1).is_none() {
-            println!("left out: {}", file.display());
-            continue;
-        }
-        count += 1;
-        all.push_str(&text);
-        if !text.is_empty() && !text.ends_with('\n') {
-            all.push('\n');
-        }
-    }
-    println!("{count} of {} texts, {} bytes", files.len(), all.len());
-    all
 }
 
 /// A line of what the system says of this process, in KiB.
@@ -180,21 +89,6 @@ fn grow(what: &str, file: &str, times: &str) {
     println!("{}", status("VmHWM") - before);
 }
 
-/// Prints how our time a byte compares with the peer's, over rounds that take the two in turn: the median of the rounds'
-/// ratios of medians, and the ratio of the least times of all.
-fn compare(name: &str, call: fn(&str) -> u64, text: &str, program: &str, file: &Path) {
-    let mut rounds = Vec::new();
-    let (mut ours, mut others) = (f64::INFINITY, f64::INFINITY);
-    for _ in 0..ROUNDS {
-        let theirs = peer(program, file, RUNS).expect("the peer's time");
-        let own = own(text, RUNS, call);
-        rounds.push(own.median / theirs.median);
-        (ours, others) = (ours.min(own.least), others.min(theirs.least));
-    }
-    let (rounds, least) = (median(rounds), ours / others);
-    println!("{name}: {rounds:.3} of the peer's time a byte, {least:.3} of its least");
-}
-
 fn main() {
     let arguments = env::args().collect::<Vec<_>>();
     let [_, folder, program, place] = &arguments[..] else {
@@ -203,17 +97,21 @@ fn main() {
     if folder == "map" || folder == "lex" {
         return grow(folder, program, place);
     }
-    let text = joined(Path::new(folder), program);
+    let peer = Peer {
+        program,
+        word: "lex",
+    };
+    let text = peer.joined(Path::new(folder), is_ours);
     let file = Path::new(place);
     fs::write(file, &text).expect("the joined text");
-    assert!(is_ours(&text) && peer(program, file, 1).is_some());
+    assert!(is_ours(&text) && peer.takes(file));
     println!(
         "{} tokens of {} bytes",
         token_count(&text),
         token_bytes(&text)
     );
-    compare("token_count", token_count, &text, program, file);
-    compare("token_bytes", token_bytes, &text, program, file);
+    peer.compare("token_count", token_count, &text, file);
+    peer.compare("token_bytes", token_bytes, &text, file);
     for times in [1, 8] {
         let (map, lex) = (growth("map", place, times), growth("lex", place, times));
         println!(
