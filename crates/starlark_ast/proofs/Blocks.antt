@@ -113,7 +113,7 @@ module _ {P L I A D T : Type 0} where
   pub statement_as_large : (x : StmtP P L I A D T) (s u : Extent) → statement_size (stmt_view x s) ≡ statement_size (stmt_view x u)
   statement_as_large x s u = ap (λ q. q.1) (statement_seen x s u)
 
-  statements_more : (xs : List (Spanned (StmtP P L I A D T))) (i : ℕ) (x : Spanned (StmtP P L I A D T)) → i < length xs → x ≡ get_or xs i x → statements_of (take (i + 1) xs) ≡ t.add_statement (statements_of (take i xs)) (stmt_at x)
+  pub statements_more : (xs : List (Spanned (StmtP P L I A D T))) (i : ℕ) (x : Spanned (StmtP P L I A D T)) → i < length xs → x ≡ get_or xs i x → statements_of (take (i + 1) xs) ≡ t.add_statement (statements_of (take i xs)) (stmt_at x)
   statements_more xs i x below is = ap statements_of (take_more xs i x below) ∙ fold-append (λ ss y. t.add_statement ss (stmt_at y)) t.no_statements (take i xs) (get_or xs i x ∷ []) ∙ ap (λ y. t.add_statement (statements_of (take i xs)) (stmt_at y)) (sym is)
 
   pub statement_more : (d : ℕ) (xs : List (Spanned (StmtP P L I A D T))) (i : ℕ) (x : Spanned (StmtP P L I A D T)) → i < length xs → x ≡ get_or xs i x → sequence_text d (statements_of (take i xs)) ++ statement_text d (stmt_at x) ≡ sequence_text d (statements_of (take (i + 1) xs))

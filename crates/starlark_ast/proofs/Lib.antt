@@ -4,6 +4,9 @@ pub mod Blocks
 pub mod Children
 mod Examples
 pub mod Lifted
+pub mod Made
+pub mod MadeStatements
+pub mod Naming
 pub mod Sizes
 pub mod Tops
 pub mod Until

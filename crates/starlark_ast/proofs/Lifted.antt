@@ -1,5 +1,7 @@
 -- A closure that calls another one at places that its own place gives.
-use Rattle.std.proofs.Common.{◌≡◌, refl, sym, ap, ◌∙◌, subst, List, [], ◌∷◌, ◌++◌, flat_map, ℕ, inl, inr, Result, Ok, Err}
+use Rattle.std.proofs.lemmas.List.{flat_map_more, take_more}
+use Rattle.std.proofs.Math.Seq.{take-length}
+use Rattle.std.proofs.Common.{◌≡◌, refl, sym, ap, ◌∙◌, subst, List, [], ◌∷◌, ◌++◌, append_assoc, flat_map, take, get_or, length, ℕ, ◌+◌, ◌<◌, inl, inr, Result, Ok, Err}
 use Rattle.std.specs.Fn.{Called, Mut}
 use denote.Param.Always.{always_mut, mut_next}
 use Rattle.starlark_ast.specs.Calls.{CalledOn, CallsAll, CallsEach, CallsUntil, StopsAtErr}
@@ -24,6 +26,18 @@ module _ {F X A : Type 0} (show : X → A) (g : Mut F (X × Unit {0}) (Unit {0})
 
   pub all_at : {f last : F} {ys xs : List A} → ys ≡ xs → CallsEach show g f xs last → CallsEach show g f ys last
   all_at {f} {last} {ys} {xs} is h = subst (λ (zs : List A). CallsEach show g f zs last) (sym is) h
+
+  pub all_both : {f mid last : F} {xs ys : List A} → CallsEach show g f xs mid → CallsEach show g mid ys last → CallsEach show g f (xs ++ ys) last
+  all_both {f} {mid} {last} {xs} {ys} h k = record { told = all_more xs ys f mid last h.told k.told }
+
+  -- the places of one more item, behind those before all
+  pub all_one_more : {B : Type 0} (h : B → List A) (zs : List A) (xs : List B) (i : ℕ) (x : B) {f mid last : F} → i < length xs → x ≡ get_or xs i x → CallsEach show g f (zs ++ flat_map h (take i xs)) mid → CallsEach show g mid (h x) last → CallsEach show g f (zs ++ flat_map h (take (i + 1) xs)) last
+  all_one_more h zs xs i x below is front here =
+      all_at (ap (λ q. zs ++ flat_map h q) (take_more xs i x below ∙ ap (λ y. take i xs ++ y ∷ []) (sym is)) ∙ ap (λ q. zs ++ q) (sym (flat_map_more h [] (take i xs) x)) ∙ sym (append_assoc zs (flat_map h (take i xs)) (h x))) (all_both front here)
+
+  -- those of all items
+  pub all_items : {B : Type 0} (h : B → List A) (zs : List A) (xs : List B) (n : ℕ) {f last : F} → n ≡ length xs → CallsEach show g f (zs ++ flat_map h (take n xs)) last → CallsEach show g f (zs ++ flat_map h xs) last
+  all_items h zs xs n whole front = all_at (ap (λ q. zs ++ flat_map h q) (sym (take-length xs) ∙ ap (λ m. take m xs) (sym whole))) front
 
   -- after calls it may be called still
   pub all_callable : (xs : List A) (f last : F) → always_mut g f → CallsAll show g f xs last → always_mut g last

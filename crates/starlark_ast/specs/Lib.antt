@@ -1,5 +1,7 @@
 pub mod Access
 pub mod Calls
+pub mod Copies
+pub mod Idents
 pub mod Lending
 pub mod Nodes
 pub mod Places
