@@ -40,6 +40,7 @@ pub mod Examples
 mod ExamplesOfExpressions
 mod ExamplesOfStatements
 mod ExamplesOfRules
+mod ExamplesOfSuppressions
 pub mod Plain
 pub mod Exits
 pub mod Gathering
@@ -69,3 +70,6 @@ pub mod Alls
 pub mod Variants
 pub mod Located
 pub mod Bindings
+pub mod Commented
+pub mod Pieces
+pub mod Tallying

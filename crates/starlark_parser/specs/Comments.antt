@@ -1,6 +1,7 @@
 -- Where the comments of a text stand.
-use Rattle.std.specs.Prelude.{◌≡◌, ℕ, [], ◌∷◌, if◌then◌else◌, Bool, true, false, List}
-use Rattle.starlark_place.specs.Place.{Extent, extent}
+use Rattle.std.specs.Prelude.{◌≡◌, ℕ, [], ◌∷◌, if◌then◌else◌, Bool, true, false, List, length}
+use Rattle.std.specs.List.{All}
+use Rattle.starlark_place.specs.Place.{Extent, Holds, extent}
 use Rattle.starlark_lexer.specs.Items.{Item, Lexed}
 use Rattle.starlark_lexer.specs.Lex.{Lex, start}
 use Rattle.starlark_parser.specs.Language.{is_comment}
@@ -21,3 +22,8 @@ pub record AreComments (text : List ℕ) (places : List Extent) (joined : List B
   pub lexes : Lex start text lexed
   pub stand : places ≡ comments_in lexed.items
   pub follow : joined ≡ joined_in false lexed.items
+
+-- The places cut no character of the text, and for each of them it is told whether the lexeme right before it is a comment, too.
+pub record AreHeld (text : List ℕ) (places : List Extent) (joined : List Bool) : Type 0 where
+  pub held : All (Holds text) places
+  pub paired : length joined ≡ length places

@@ -21,6 +21,8 @@ pub mod Ends
 pub mod Spans
 pub mod Kinds
 pub mod Comments
+pub mod Suppressions
+pub mod Tallies
 pub mod Asides
 pub mod Reads
 pub mod Counted

@@ -42,6 +42,18 @@ pub(crate) struct Comments {
     pub(crate) joined: Vec<bool>,
 }
 
+impl Comments {
+    /// The same places and flags, in memory of their own.
+    pub(crate) fn clone(&self, alloc: Global) -> Result<Comments, AllocError>
+        ensures places { IfOk result (λ c. c.places.items ≡ self.now.places.items) }
+        ensures joined { IfOk result (λ c. c.joined.items ≡ self.now.joined.items) }
+    {
+        let places = self.places.as_slice().to_vec(alloc)?;
+        let joined = self.joined.as_slice().to_vec(alloc)?;
+        Ok(Comments { places, joined })
+    }
+}
+
 /// What is told of a reading beside its tree.
 #[derive(Drop)]
 pub(crate) struct Told {

@@ -62,6 +62,7 @@ impl AstModuleFields for AstModule {
 
     fn into_parts(self) -> (CodeMap, AstStmt, Dialect, bool) {
         let types = contains(self.codemap.source(), "@starlark-rust: typecheck");
-        (self.codemap, self.statement, self.dialect, types)
+        let (codemap, statement, dialect) = self.into_fields();
+        (codemap, statement, dialect, types)
     }
 }

@@ -2,12 +2,14 @@
 
 ghost use Rattle.std.specs.Str.{IsCharBoundary};
 ghost use Rattle.starlark_ast.specs.View.{stmt_at};
+ghost use Rattle.starlark_parser.specs.Comments.{AreHeld};
 ghost use Rattle.starlark_parser.specs.Ends.{StatementAt};
 
 use crate::cost::Cost;
 use crate::fault::EvalException;
 use crate::feed::Comments;
 use crate::parsing::module_of;
+use crate::suppression::is_suppressed;
 use starlark_ast::ast::AstStmt;
 use starlark_lexer::dialect::Dialect;
 use starlark_place::codemap::{CodeMap, CodeMapId};
@@ -16,7 +18,7 @@ use starlark_place::pos::Span;
 use std::alloc::{AllocError, Global};
 
 /// A text that is in the language, with its tree.
-#[derive(Debug, Drop)]
+#[derive(Debug)]
 pub struct AstModule {
     pub(crate) codemap: CodeMap,
     pub(crate) statement: AstStmt,
@@ -24,6 +26,20 @@ pub struct AstModule {
     pub(crate) comments: Comments,
     // each place in the tree begins and ends between two characters
     pub ghost held: { ∥ StatementAt (IsCharBoundary codemap.source) (stmt_at statement) ∥₁ },
+    // so does each comment, and each has its flag
+    pub ghost comments_held: { AreHeld codemap.source comments.places.items comments.joined.items },
+}
+
+// Written out, so that a crate that lets a module go need not prove how the parts of a tree are let go.
+impl Drop for AstModule {
+    fn drop(self) {
+        let AstModule {
+            codemap: _codemap,
+            statement: _statement,
+            dialect: _,
+            comments: _comments,
+        } = self;
+    }
 }
 
 impl AstModule {
@@ -34,6 +50,7 @@ impl AstModule {
     ghost use Rattle.starlark_parser.specs.Language.{Language};
     ghost use Rattle.starlark_parser.specs.Faults.{IsFault};
     ghost use Rattle.starlark_parser.specs.Modules.{comments_of, dialect_of, file_of, joined_of, tree_of};
+    ghost use Rattle.starlark_parser.specs.Suppressions.{is_suppressed};
 
     /// The module of a text under a name. A text of more than `u32::MAX` bytes is `TooLong`, which is looked at first. A
     /// text that is not in the language is refused for the first reason from the left: docs/LANGUAGE.md, Refusals.
@@ -90,6 +107,35 @@ impl AstModule {
         ensures { result.now ≡ comments_of self.now }
     {
         self.comments.places.as_slice()
+    }
+
+    /// Whether comments suppress a finding of a linter, by its name and where it stands: docs/LANGUAGE.md, Suppressions. The
+    /// place need not lie in the text.
+    pub fn is_suppressed(&self, name: &str, issue_span: Span) -> bool
+        ensures { result ≡ is_suppressed (file_of self.now).source (comments_of self.now) (joined_of self.now) name.now issue_span }
+    {
+        is_suppressed(
+            &self.codemap,
+            self.comments.places.as_slice(),
+            self.comments.joined.as_slice(),
+            name,
+            issue_span,
+        )
+    }
+
+    /// Its text, its tree and its dialect.
+    pub(crate) fn into_fields(self) -> (CodeMap, AstStmt, Dialect)
+        ensures file { result.0 ≡ file_of self }
+        ensures tree { stmt_at result.1 ≡ tree_of self }
+        ensures dialect { result.2 ≡ dialect_of self }
+    {
+        let AstModule {
+            codemap,
+            statement,
+            dialect,
+            comments: _comments,
+        } = self;
+        (codemap, statement, dialect)
     }
 
     /// A stretch of the text with the name of the file. It is refused where std refuses shared data one more owner.

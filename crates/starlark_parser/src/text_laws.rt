@@ -1,13 +1,14 @@
 //! Laws of the language as a set of texts.
 
-ghost use Rattle.std.specs.Prelude.{List, length, ◌≡◌, ◌⊎◌, ℕ};
+ghost use Rattle.std.specs.Prelude.{Bool, List, length, ◌≡◌, ◌⊎◌, ℕ};
 ghost use Rattle.std.specs.Str.{IsCharBoundary, IsUtf8};
-ghost use Rattle.starlark_place.specs.Place.{Holds};
+ghost use Rattle.starlark_place.specs.Place.{Extent, Holds};
 ghost use Rattle.starlark_parser.specs.Spans.{stretch};
 ghost use Rattle.starlark_lexer.specs.Items.{Lexed};
 ghost use Rattle.starlark_lexer.specs.Lex.{Lex, start};
 ghost use Rattle.starlark_lexer.specs.declared.dialect.Dialect.{Dialect};
 ghost use Rattle.starlark_ast.specs.Tree.{Statement};
+ghost use Rattle.starlark_parser.specs.Comments.{AreComments, AreHeld};
 ghost use Rattle.starlark_parser.specs.Language.{Fault, IsRefused, Language, place_of};
 ghost use Rattle.starlark_parser.specs.Ends.{StatementAt};
 ghost use Rattle.starlark_parser.specs.Nested.{StatementIn};
@@ -41,10 +42,12 @@ pub fn nested_places()
     in_order();
 }
 
-/// The place of a refusal lies in the text and cuts no character, and so does each place in the tree of a text.
+/// The place of a refusal lies in the text and cuts no character, and so does each place in the tree of a text and each of a
+/// comment.
 pub fn held_places()
     ensures refusal { (dialect : Dialect) (text : List ℕ) (f : Fault) → IsUtf8 text → IsRefused dialect text f → Holds text (place_of f) }
     ensures tree { (dialect : Dialect) (text : List ℕ) (tree : Statement) → IsUtf8 text → Language dialect text tree → StatementAt (IsCharBoundary text) tree }
+    ensures comments { (text : List ℕ) (places : List Extent) (joined : List Bool) → IsUtf8 text → AreComments text places joined → AreHeld text places joined }
 {
     whole_characters();
 }

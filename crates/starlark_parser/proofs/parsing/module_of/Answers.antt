@@ -1,6 +1,7 @@
 use Rattle.std.proofs.Common.{rules, ap, subst, ◌∙◌}
 use Rattle.std.specs.Str.{IsCharBoundary}
 use Rattle.starlark_ast.specs.View.{stmt_at}
+use Rattle.starlark_parser.specs.Comments.{AreHeld}
 use Rattle.starlark_parser.specs.Ends.{StatementAt}
 use Rattle.starlark_parser.specs.Refused.{fault_of}
 use Rattle.starlark_parser.proofs.Costing.{refused_cost, whole_cost}
@@ -22,4 +23,5 @@ returns-in-Ok-answer-clause-cost c = whole_cost (c.source.ensures.is ∙ ap (λ 
 pub invariant_of-result : goal.invariant_of-result
 invariant_of-result c = record {
   held = ∣ subst (λ t. StatementAt (IsCharBoundary t) (stmt_at c.in-Ok-answer.statement)) c.source.ensures.is (c.held_places.ensures.tree c.args.dialect.now c.source.result.now (stmt_at c.in-Ok-answer.statement) c.source.utf8 (c.in-Ok-answer.ensures.language c.source.result.now c.new-lexer.ensures.left)) ∣₁;
+  comments_held = subst (λ t. AreHeld t c.read-answer.new.told.comments.places.items c.read-answer.new.told.comments.joined.items) c.source.ensures.is (c.held_places.ensures.comments c.source.result.now _ _ c.source.utf8 (record { lexed = c.new-lexer.result.left; lexes = c.new-lexer.ensures.left; stand = c.in-Ok-answer.ensures.comments; follow = c.in-Ok-answer.ensures.joined }));
 }

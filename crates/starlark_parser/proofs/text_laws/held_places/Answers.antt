@@ -1,3 +1,4 @@
+use Rattle.starlark_parser.proofs.Commented.{comments_held}
 use Rattle.starlark_parser.proofs.EndsOfRefusals.{refused_at, tree_at}
 use Rattle.starlark_parser.proofs.text_laws.held_places.Goals as goal
 
@@ -6,3 +7,6 @@ returns-clause-refusal c = refused_at c.whole_characters.ensures
 
 pub returns-clause-tree : goal.returns-clause-tree
 returns-clause-tree c = tree_at c.whole_characters.ensures
+
+pub returns-clause-comments : goal.returns-clause-comments
+returns-clause-comments c = comments_held c.whole_characters.ensures
