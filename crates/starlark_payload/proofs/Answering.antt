@@ -1,5 +1,5 @@
 -- Calls of a payload function, one list of payloads behind another.
-use Rattle.std.proofs.Common.{◌≡◌, refl, sym, ap, ◌∙◌, subst, List, [], ◌∷◌, ◌++◌, append_assoc, append-nil, Result, Ok, Err, OnErr}
+use Rattle.std.proofs.Common.{◌≡◌, refl, sym, ap, ◌∙◌, subst, List, [], ◌∷◌, ◌++◌, append_assoc, append-nil, Result, Ok, Err, IfOk, OnErr}
 use Rattle.starlark_payload.specs.Payloads.{Answered, Answers, Begins}
 
 module _ {S X Y : Type 0} (R : S → X → Y → S → Type 0) where
@@ -42,3 +42,13 @@ module _ {S X Y : Type 0} (R : S → X → Y → S → Type 0) where
 pub on_err : {T E P : Type 0} (r : Result T E) → P → OnErr r P
 on_err (Ok x) p = tt
 on_err (Err e) p = p
+
+-- what is made has these payloads
+pub made_called : {S X Y Z E : Type 0} {R : S → X → Y → S → Type 0} {s t : S} {xs zs : List X} {ys : List Y} (r : Result Z E) (p : Z → List Y) → IfOk r (λ z. p z ≡ ys) → xs ≡ zs → Answers R s zs t ys → IfOk r (λ z. Answers R s xs t (p z))
+made_called {S} {X} {Y} {Z} {E} {R} (Ok z) p e d h = answers_at R d e h
+made_called (Err e) p is d h = tt
+
+-- what is made has this plain data
+pub made_kept : {Z E V : Type 0} {a b m : V} (r : Result Z E) (v : Z → V) → IfOk r (λ z. v z ≡ a) → a ≡ b → m ≡ b → IfOk r (λ z. v z ≡ m)
+made_kept (Ok z) v e d k = e ∙ (d ∙ sym k)
+made_kept (Err e) v is d k = tt

@@ -1,2 +1,5 @@
 pub mod Answering
 pub mod Listed
+pub mod Loops
+pub mod Naming
+pub mod Opening

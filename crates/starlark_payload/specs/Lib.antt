@@ -1,2 +1,4 @@
+pub mod Around
 pub mod Kept
 pub mod Payloads
+pub mod Weights

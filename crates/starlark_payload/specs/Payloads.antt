@@ -37,6 +37,11 @@ abbrev pub maybe_boxed : {X Y : Type 0} → (X → List Y) → Option (Box (Span
 maybe_boxed h None = []
 maybe_boxed h (Some x) = h x.value.node
 
+-- those of a node, if there is one
+abbrev pub maybe_of : {X Y : Type 0} → (X → List Y) → Option (Spanned X) → List Y
+maybe_of h None = []
+maybe_of h (Some x) = h x.node
+
 -- those of each
 abbrev pub all_of : {X Y : Type 0} → (X → List Y) → List (Spanned X) → List Y
 all_of h xs = flat_map (λ x. h x.node) xs

@@ -1,4 +1,7 @@
 //! Payload maps: the same tree with other payloads.
 #![tactic(auto)]
 
+mod boxes;
+mod names;
+pub mod nodes;
 pub mod payload_map;

@@ -67,7 +67,7 @@ pub trait IntoMapPayload<A: AstPayload, B: AstPayload> {
 }
 
 /// An identifier that is read.
-fn ident<A: AstPayload, B: AstPayload, F: AstPayloadFunction<A, B>>(
+pub(crate) fn ident<A: AstPayload, B: AstPayload, F: AstPayloadFunction<A, B>>(
     x: IdentP<A>,
     f: &mut F,
 ) -> IdentP<B>
@@ -80,7 +80,7 @@ fn ident<A: AstPayload, B: AstPayload, F: AstPayloadFunction<A, B>>(
 }
 
 /// An identifier that is assigned.
-fn assign_ident<A: AstPayload, B: AstPayload, F: AstPayloadFunction<A, B>>(
+pub(crate) fn assign_ident<A: AstPayload, B: AstPayload, F: AstPayloadFunction<A, B>>(
     x: AssignIdentP<A>,
     f: &mut F,
 ) -> AssignIdentP<B>
