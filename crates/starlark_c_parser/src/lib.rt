@@ -2,6 +2,9 @@
 //! takes no bytes.
 #![tactic(auto)]
 
+pub mod keeping;
+pub mod kept;
+mod loose;
 pub mod parsing;
 pub mod switches;
 #[cfg(test)]

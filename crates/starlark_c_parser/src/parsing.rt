@@ -44,7 +44,7 @@ pub extern "C" fn starlark_c_parser_parse(
 }
 
 /// The module of a text, none where it is not taken, or no answer where it is too long or memory runs out.
-fn read(alloc: Global, text: &str, dialect: &Dialect) -> Option<Option<AstModule>>
+pub(crate) fn read(alloc: Global, text: &str, dialect: &Dialect) -> Option<Option<AstModule>>
     ensures read { IfSome result (IsRead dialect.now text.now) }
     ensures too_long { 4294967295 < length text.now → result ≡ None }
 {

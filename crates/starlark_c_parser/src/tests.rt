@@ -1,7 +1,10 @@
 //! Each call once: what it answers with memory at hand. Its contract says the rest.
 
+use crate::keeping::{starlark_c_parser_keep, starlark_c_parser_release};
+use crate::kept::Kept;
 use crate::parsing::starlark_c_parser_parse;
 use crate::switches::Switches;
+use std::alloc::Global;
 
 const PLAIN: Switches = Switches {
     enable_def: true,
@@ -21,4 +24,37 @@ fn texts(rt: HostRuntime) {
     assert!(rt; taken);
     assert!(rt; starlark_c_parser_parse(rt.alloc(), b"x: int = 1\n", &PLAIN, &mut taken));
     assert!(rt; !taken);
+}
+
+// whether a tree is kept, which goes
+fn is_kept(alloc: Global, kept: Kept) -> bool {
+    match kept.into_module(alloc) {
+        Some(_module) => true,
+        None => false,
+    }
+}
+
+#[test]
+fn kept_trees(rt: HostRuntime) {
+    let mut kept = Kept::none();
+    assert!(rt; starlark_c_parser_keep(rt.alloc(), b"x = 1\n", &PLAIN, &mut kept));
+    // the first tree goes
+    assert!(rt; starlark_c_parser_keep(rt.alloc(), b"y = 2\n", &PLAIN, &mut kept));
+    assert!(rt; is_kept(rt.alloc(), kept));
+}
+
+#[test]
+fn refused_text(rt: HostRuntime) {
+    let mut kept = Kept::none();
+    assert!(rt; starlark_c_parser_keep(rt.alloc(), b"x = 1\n", &PLAIN, &mut kept));
+    assert!(rt; starlark_c_parser_keep(rt.alloc(), b"x: int = 1\n", &PLAIN, &mut kept));
+    assert!(rt; !is_kept(rt.alloc(), kept));
+}
+
+#[test]
+fn released_tree(rt: HostRuntime) {
+    let mut kept = Kept::none();
+    assert!(rt; starlark_c_parser_keep(rt.alloc(), b"x = 1\n", &PLAIN, &mut kept));
+    starlark_c_parser_release(rt.alloc(), &mut kept);
+    assert!(rt; !is_kept(rt.alloc(), kept));
 }
