@@ -3,6 +3,8 @@
 #![tactic(auto)]
 
 #[cfg(test)]
+mod clones;
+#[cfg(test)]
 mod common;
 #[cfg(test)]
 mod parsing;
@@ -11,6 +13,10 @@ mod prints;
 #[cfg(test)]
 mod rules;
 #[cfg(test)]
+mod suppressions;
+#[cfg(test)]
 mod trees;
 #[cfg(test)]
 mod unpacking;
+#[cfg(test)]
+mod visiting;

@@ -1,26 +1,17 @@
 //! What leaves of trees print, and clones of literals, names and loads.
 
-use crate::common::{prints, span};
+use crate::common::{prints, same, span};
 use starlark_ast::ast::{
     AssignIdent, AssignIdentP, AssignOp, AstLiteral, BinOp, Comma, Ident, Load, LoadArgP,
 };
 use starlark_ast::making::ToAst;
 use starlark_lexer::token::TokenInt;
 use std::alloc::{AllocError, Global};
-use std::fmt::Debug;
-use std::process::Abort;
 use std::test::Fail;
 
 fn name(alloc: Global, text: &str) -> Result<AssignIdent, AllocError> {
     let ident = String::from_str(alloc, text)?;
     Ok(AssignIdentP { ident, payload: () })
-}
-
-// both show the same, places and texts among it
-fn same(rt: &impl Abort, alloc: Global, x: &impl Debug, y: &impl Debug) -> Result<(), AllocError> {
-    let shown = format!(in alloc; "{x:?}")?;
-    assert_eq!(rt; shown, format!(in alloc; "{y:?}")?);
-    Ok(())
 }
 
 #[test]
