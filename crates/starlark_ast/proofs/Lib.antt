@@ -6,8 +6,10 @@ mod Examples
 pub mod Lifted
 pub mod Made
 pub mod MadeStatements
+pub mod Moved
 pub mod Naming
 pub mod Sizes
+pub mod Stays
 pub mod Tops
 pub mod Until
 pub mod Written

@@ -6,6 +6,7 @@ pub mod Lending
 pub mod Nodes
 pub mod Places
 pub mod Printing
+pub mod Replacing
 pub mod Shown
 pub mod StatementViews
 pub mod Statements

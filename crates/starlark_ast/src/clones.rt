@@ -14,6 +14,8 @@ use crate::ast::{
     TypeExprP,
 };
 use crate::kept::Kept;
+use crate::rename::Unchanged;
+use starlark_place::pos::{Pos, Span};
 use std::alloc::{AllocError, Global};
 
 impl ExprP<AstNoPayload> {
@@ -21,7 +23,8 @@ impl ExprP<AstNoPayload> {
     pub fn clone(&self, alloc: Global) -> Result<Expr, AllocError>
         ensures { IfOk result (λ x. (s : Extent) → expr_view x s ≡ expr_view self.now s) }
     {
-        expression::<Kept>(alloc, self)
+        let nowhere = Span::new(Pos::new(0), Pos::new(0));
+        Ok(expression::<Kept, Unchanged>(alloc, &Unchanged, self, nowhere)?)
     }
 }
 
@@ -30,7 +33,7 @@ impl ArgumentP<AstNoPayload> {
     pub fn clone(&self, alloc: Global) -> Result<Argument, AllocError>
         ensures { IfOk result (λ x. (s : Extent) → argument_view x s ≡ argument_view self.now s) }
     {
-        argument::<Kept>(alloc, self)
+        Ok(argument::<Kept, Unchanged>(alloc, &Unchanged, self)?)
     }
 }
 
@@ -39,7 +42,7 @@ impl CallArgsP<AstNoPayload> {
     pub fn clone(&self, alloc: Global) -> Result<CallArgsP<AstNoPayload>, AllocError>
         ensures { IfOk result (λ x. call_args_view x ≡ call_args_view self.now) }
     {
-        let args = arguments::<Kept>(alloc, &self.args)?;
+        let args = arguments::<Kept, Unchanged>(alloc, &Unchanged, &self.args)?;
         Ok(CallArgsP { args })
     }
 }
@@ -49,7 +52,7 @@ impl ParameterP<AstNoPayload> {
     pub fn clone(&self, alloc: Global) -> Result<Parameter, AllocError>
         ensures { IfOk result (λ x. (s : Extent) → parameter_view x s ≡ parameter_view self.now s) }
     {
-        parameter::<Kept>(alloc, self)
+        Ok(parameter::<Kept, Unchanged>(alloc, &Unchanged, self)?)
     }
 }
 
@@ -58,7 +61,7 @@ impl LambdaP<AstNoPayload> {
     pub fn clone(&self, alloc: Global) -> Result<LambdaP<AstNoPayload>, AllocError>
         ensures { IfOk result (λ x. (s : Extent) → lambda_view x s ≡ lambda_view self.now s) }
     {
-        let (params, body) = lambda_parts::<Kept>(alloc, self)?;
+        let (params, body) = lambda_parts::<Kept, Unchanged>(alloc, &Unchanged, self)?;
         Ok(LambdaP {
             params,
             body,
@@ -72,7 +75,7 @@ impl FStringP<AstNoPayload> {
     pub fn clone(&self, alloc: Global) -> Result<FStringP<AstNoPayload>, AllocError>
         ensures { IfOk result (λ x. (u s : Extent) → fstring_view x u s ≡ fstring_view self.now u s) }
     {
-        let (format, expressions) = f_string_parts::<Kept>(alloc, self)?;
+        let (format, expressions) = f_string_parts::<Kept, Unchanged>(alloc, &Unchanged, self)?;
         Ok(FStringP {
             format,
             expressions,
@@ -85,7 +88,7 @@ impl TypeExprP<AstNoPayload> {
     pub fn clone(&self, alloc: Global) -> Result<TypeExpr, AllocError>
         ensures { IfOk result (λ x. (s : Extent) → type_view x s ≡ type_view self.now s) }
     {
-        annotation::<Kept>(alloc, self)
+        Ok(annotation::<Kept, Unchanged>(alloc, &Unchanged, self)?)
     }
 }
 
@@ -94,7 +97,7 @@ impl AssignTargetP<AstNoPayload> {
     pub fn clone(&self, alloc: Global) -> Result<AssignTarget, AllocError>
         ensures { IfOk result (λ x. (s : Extent) → target_view x s ≡ target_view self.now s) }
     {
-        target::<Kept>(alloc, self)
+        Ok(target::<Kept, Unchanged>(alloc, &Unchanged, self)?)
     }
 }
 
@@ -103,7 +106,7 @@ impl ForClauseP<AstNoPayload> {
     pub fn clone(&self, alloc: Global) -> Result<ForClause, AllocError>
         ensures { IfOk result (λ x. for_clause_view x ≡ for_clause_view self.now) }
     {
-        for_clause::<Kept>(alloc, self)
+        Ok(for_clause::<Kept, Unchanged>(alloc, &Unchanged, self)?)
     }
 }
 
@@ -112,6 +115,6 @@ impl ClauseP<AstNoPayload> {
     pub fn clone(&self, alloc: Global) -> Result<Clause, AllocError>
         ensures { IfOk result (λ x. clause_view x ≡ clause_view self.now) }
     {
-        clause::<Kept>(alloc, self)
+        Ok(clause::<Kept, Unchanged>(alloc, &Unchanged, self)?)
     }
 }

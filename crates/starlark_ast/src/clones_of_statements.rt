@@ -7,6 +7,7 @@ ghost use Rattle.starlark_ast.specs.View.{assign_view, def_view, for_view, stmt_
 use crate::again_statements::{assign_parts, def_parts, for_parts, statement};
 use crate::ast::{AssignP, AstNoPayload, DefP, ForP, Stmt, StmtP};
 use crate::kept::Kept;
+use crate::rename::Unchanged;
 use std::alloc::{AllocError, Global};
 
 impl StmtP<AstNoPayload> {
@@ -14,7 +15,7 @@ impl StmtP<AstNoPayload> {
     pub fn clone(&self, alloc: Global) -> Result<Stmt, AllocError>
         ensures { IfOk result (λ x. (s : Extent) → stmt_view x s ≡ stmt_view self.now s) }
     {
-        statement::<Kept>(alloc, self)
+        Ok(statement::<Kept, Unchanged>(alloc, &Unchanged, self)?)
     }
 }
 
@@ -23,7 +24,7 @@ impl AssignP<AstNoPayload> {
     pub fn clone(&self, alloc: Global) -> Result<AssignP<AstNoPayload>, AllocError>
         ensures { IfOk result (λ x. (s : Extent) → assign_view x s ≡ assign_view self.now s) }
     {
-        let (lhs, ty, rhs) = assign_parts::<Kept>(alloc, self)?;
+        let (lhs, ty, rhs) = assign_parts::<Kept, Unchanged>(alloc, &Unchanged, self)?;
         Ok(AssignP { lhs, ty, rhs })
     }
 }
@@ -33,7 +34,7 @@ impl ForP<AstNoPayload> {
     pub fn clone(&self, alloc: Global) -> Result<ForP<AstNoPayload>, AllocError>
         ensures { IfOk result (λ x. (s : Extent) → for_view x s ≡ for_view self.now s) }
     {
-        let (var, over, body) = for_parts::<Kept>(alloc, self)?;
+        let (var, over, body) = for_parts::<Kept, Unchanged>(alloc, &Unchanged, self)?;
         Ok(ForP { var, over, body })
     }
 }
@@ -43,7 +44,9 @@ impl DefP<AstNoPayload> {
     pub fn clone(&self, alloc: Global) -> Result<DefP<AstNoPayload>, AllocError>
         ensures { IfOk result (λ x. (s : Extent) → def_view x s ≡ def_view self.now s) }
     {
-        let (name, params, return_type, body) = def_parts::<Kept>(alloc, self)?;
+        let (name, params, return_type, body) = def_parts::<Kept, Unchanged>(
+            alloc, &Unchanged, self,
+        )?;
         Ok(DefP {
             name,
             params,

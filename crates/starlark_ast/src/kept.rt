@@ -1,8 +1,10 @@
 //! Trees that are kept.
 
-ghost use Rattle.std.specs.Prelude.{◌≡◌, string_bytes};
+ghost use Rattle.std.specs.Option.{option_copied};
+ghost use Rattle.std.specs.Prelude.{◌≡◌, IfOk, string_bytes};
 ghost use Rattle.starlark_place.specs.Place.{Extent};
 ghost use Rattle.starlark_ast.specs.Copies.{bound_by, clauses_by, items_by, members_by, pairs_by, seen, type_by};
+ghost use Rattle.starlark_ast.specs.Replacing.{operated};
 ghost use Rattle.starlark_ast.specs.Tree as tree;
 ghost use Rattle.starlark_ast.specs.View.{argument_view, assigned_view, clause_view, expr_view, for_clause_view, ident_view, literal_view, parameter_of, parameter_view, target_view, type_view};
 
@@ -11,8 +13,10 @@ use crate::ast::{
     AstString, BinOp, CallArgsP, Clause, ClauseP, Expr, ExprP, FStringP, ForClause, ForClauseP,
     LambdaP, Parameter, ParameterP, TypeExpr, TypeExprP,
 };
+use crate::called::call_of_name;
 use crate::make::Make;
 use starlark_place::pos::{Span, Spanned};
+use std::alloc::{AllocError, Global};
 
 /// Makes trees without payload.
 pub(crate) struct Kept;
@@ -147,10 +151,20 @@ impl Make for Kept {
         ExprP::BitNot(x)
     }
 
-    fn operation(x: Box<Spanned<Expr>>, op: BinOp, y: Box<Spanned<Expr>>) -> Expr
-        ensures { (s : Extent) → expr_view result s ≡ tree.operation (seen expr_view x.value) op (seen expr_view y.value) s }
+    fn operation(
+        alloc: Global,
+        x: Box<Spanned<Expr>>,
+        op: BinOp,
+        y: Box<Spanned<Expr>>,
+        called: Option<&str>,
+        span: Span,
+    ) -> Result<Expr, AllocError>
+        ensures { IfOk result (λ z. expr_view z span ≡ operated (option_copied called.entry) (seen expr_view x.value) op (seen expr_view y.value) span) }
     {
-        ExprP::Op(x, op, y)
+        match called {
+            None => Ok(ExprP::Op(x, op, y)),
+            Some(name) => Ok(call_of_name(alloc, name, x, y, span)?),
+        }
     }
 
     fn choice(x: Box<(Spanned<Expr>, Spanned<Expr>, Spanned<Expr>)>) -> Expr

@@ -1,13 +1,16 @@
 //! What makes nodes. A pass over a tree that makes a tree does not see into what it makes.
 
-ghost use Rattle.std.specs.Prelude.{◌≡◌, string_bytes};
+ghost use Rattle.std.specs.Option.{option_copied};
+ghost use Rattle.std.specs.Prelude.{◌≡◌, IfOk, string_bytes};
 ghost use Rattle.starlark_place.specs.Place.{Extent};
 ghost use Rattle.starlark_ast.specs.Copies.{bound_by, clauses_by, items_by, members_by, pairs_by, seen, type_by};
+ghost use Rattle.starlark_ast.specs.Replacing.{operated};
 ghost use Rattle.starlark_ast.specs.Tree as tree;
 ghost use Rattle.starlark_ast.specs.View.{assigned_view, ident_view, literal_view, parameter_of};
 
 use crate::ast::{AstAssignIdent, AstIdent, AstLiteral, AstString, BinOp};
 use starlark_place::pos::{Span, Spanned};
+use std::alloc::{AllocError, Global};
 
 /// Makes nodes of their parts.
 pub(crate) trait Make {
@@ -107,8 +110,16 @@ pub(crate) trait Make {
     fn bit_not(x: Box<Spanned<Self::Expr>>) -> Self::Expr
         ensures { (s : Extent) → expr_means result s ≡ tree.signed tree.BitNot (seen expr_means x.value) s };
 
-    fn operation(x: Box<Spanned<Self::Expr>>, op: BinOp, y: Box<Spanned<Self::Expr>>) -> Self::Expr
-        ensures { (s : Extent) → expr_means result s ≡ tree.operation (seen expr_means x.value) op (seen expr_means y.value) s };
+    /// An operation at its place, or in its stead a call of the name.
+    fn operation(
+        alloc: Global,
+        x: Box<Spanned<Self::Expr>>,
+        op: BinOp,
+        y: Box<Spanned<Self::Expr>>,
+        called: Option<&str>,
+        span: Span,
+    ) -> Result<Self::Expr, AllocError>
+        ensures { IfOk result (λ z. expr_means z span ≡ operated (option_copied called.entry) (seen expr_means x.value) op (seen expr_means y.value) span) };
 
     fn choice(
         x: Box<

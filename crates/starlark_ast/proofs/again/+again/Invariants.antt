@@ -1,5 +1,6 @@
-use Rattle.std.proofs.Common.{ℕ, ◌+◌, ◌≡◌, take}
+use Rattle.std.proofs.Common.{◌+◌, ◌≡◌, take}
 use Rattle.starlark_ast.specs.Copies.{clauses_by, items_by, members_by, pairs_by}
+use Rattle.starlark_ast.specs.Replacing.{replaced_clauses, replaced_members}
 use Rattle.starlark_ast.specs.Shown.{nowhere}
 use Rattle.starlark_ast.specs.View.{argument_at, argument_view, boxed_expr, boxed_type, clause_view, expr_at, expr_view, for_clause_view, members, parameter_at, parameter_view, target_view}
 use Rattle.starlark_ast.specs.Views.{clauses_of, items_of, pairs_of, targets_of}
@@ -73,19 +74,19 @@ abbrev pub decreases-targets : goal.decreases-targets
 decreases-targets g l = sizes (targets_of l.xs.now)
 
 abbrev pub invariant-items-loop-x : goal.invariant-items-loop-x
-invariant-items-loop-x g l = items_by g.M.Make.expr_means l.all.items ≡ items_of (take l.x-index l.xs)
+invariant-items-loop-x g l = items_by g.M.Make.expr_means l.all.items ≡ replaced_members (g.R.Rename.renames l.by) (items_of (take l.x-index l.xs))
 
 abbrev pub invariant-entries-loop-x : goal.invariant-entries-loop-x
-invariant-entries-loop-x g l = pairs_by g.M.Make.expr_means l.all.items ≡ pairs_of (take l.x-index l.xs)
+invariant-entries-loop-x g l = pairs_by g.M.Make.expr_means l.all.items ≡ replaced_members (g.R.Rename.renames l.by) (pairs_of (take l.x-index l.xs))
 
 abbrev pub invariant-arguments-loop-x : goal.invariant-arguments-loop-x
-invariant-arguments-loop-x g l = members_by g.M.Make.argument_means l.all.items ≡ members argument_at (take l.x-index l.xs)
+invariant-arguments-loop-x g l = members_by g.M.Make.argument_means l.all.items ≡ replaced_members (g.R.Rename.renames l.by) (members argument_at (take l.x-index l.xs))
 
 abbrev pub invariant-parameters-loop-x : goal.invariant-parameters-loop-x
-invariant-parameters-loop-x g l = members_by g.M.Make.parameter_means l.all.items ≡ members parameter_at (take l.x-index l.xs)
+invariant-parameters-loop-x g l = members_by g.M.Make.parameter_means l.all.items ≡ replaced_members (g.R.Rename.renames l.by) (members parameter_at (take l.x-index l.xs))
 
 abbrev pub invariant-clauses-loop-x : goal.invariant-clauses-loop-x
-invariant-clauses-loop-x g l = clauses_by (g.M.Make.for_means l.begin.value) g.M.Make.clause_means l.all.items ≡ clauses_of l.first (take l.x-index l.rest)
+invariant-clauses-loop-x g l = clauses_by (g.M.Make.for_means l.begin.value) g.M.Make.clause_means l.all.items ≡ replaced_clauses (g.R.Rename.renames l.by) (clauses_of l.first (take l.x-index l.rest))
 
 abbrev pub invariant-targets-loop-x : goal.invariant-targets-loop-x
-invariant-targets-loop-x g l = items_by g.M.Make.target_means l.all.items ≡ targets_of (take l.x-index l.xs)
+invariant-targets-loop-x g l = items_by g.M.Make.target_means l.all.items ≡ replaced_members (g.R.Rename.renames l.by) (targets_of (take l.x-index l.xs))

@@ -1,5 +1,6 @@
 use Rattle.std.proofs.Common.{◌≡◌, ◌+◌, take}
 use Rattle.starlark_ast.specs.Copies.{sequence_by}
+use Rattle.starlark_ast.specs.Replacing.{replaced_sequence}
 use Rattle.starlark_ast.specs.Shown.{nowhere}
 use Rattle.starlark_ast.specs.StatementViews.{statements_of}
 use Rattle.starlark_ast.specs.View.{stmt_at, stmt_view}
@@ -25,4 +26,4 @@ abbrev pub decreases-def_parts : goal.decreases-def_parts
 decreases-def_parts g l = 2 + statement_size (stmt_at l.x.now.body.value)
 
 abbrev pub invariant-several-loop-x : goal.invariant-several-loop-x
-invariant-several-loop-x g l = sequence_by g.M.MakeStatements.says l.all.items ≡ statements_of (take l.x-index l.xs)
+invariant-several-loop-x g l = sequence_by g.M.MakeStatements.says l.all.items ≡ replaced_sequence (g.R.Rename.renames l.by) (statements_of (take l.x-index l.xs))
