@@ -51,13 +51,7 @@ module _ {B : ℕ → Type 0} where
   pub becomes : {n : ℕ} {a b : List Item} {P Q : Type 0} → (P → Q) → Gives B n a b P → Gives B n a b Q
   becomes f p = record { le = p.le; rest = p.rest; is = λ h. f (p.is h) }
 
-module _ (B : ℕ → Type 0) (nought : B 0) where
-  pub stretched : {i j : ℕ} → B i → B j → At B (stretch i j)
-  stretched {i} {j} h k = elim (cases_lt i j) [
-    | inl lt ↦ let e : j ≡ max i j = omega (arith, lt) in (h, subst B e k)
-    | inr ge ↦ let e : i ≡ max i j = omega (arith, ge) in (h, subst B e h)
-  ]
-
+module _ (B : ℕ → Type 0) where
   pub place_at : (x : Expr) → ExprAt B x → At B (place x)
   place_at (tree.leaf l u s) h = h.0
   place_at (tree.tuple ms s) h = h.0
@@ -73,8 +67,15 @@ module _ (B : ℕ → Type 0) (nought : B 0) where
   place_at (tree.choice x y z s) h = h.0
   place_at (tree.fstring f u ms v s) h = h.0
 
+module _ (B : ℕ → Type 0) (nought : B 0) where
+  pub stretched : {i j : ℕ} → B i → B j → At B (stretch i j)
+  stretched {i} {j} h k = elim (cases_lt i j) [
+    | inl lt ↦ let e : j ≡ max i j = omega (arith, lt) in (h, subst B e k)
+    | inr ge ↦ let e : i ≡ max i j = omega (arith, ge) in (h, subst B e h)
+  ]
+
   pub typed_at : (x : Expr) → ExprAt B x → AnnotationAt B (type_at x)
-  typed_at x h = (place_at x h, h)
+  typed_at x h = (place_at B x h, h)
 
   -- where the first token begins
   pub start_known : {n : ℕ} (a : List Item) → Known B n a → n < length a → B (start a)
@@ -127,13 +128,13 @@ module _ (B : ℕ → Type 0) (nought : B 0) where
     level_at (g.in_brackets {p = o} {ms} {t} h ds) w = becomes (λ p. (p.0.0, p.1.1.1.1, enclosed_at o ms t _ _ (stretched p.0.0 p.1.1.1.1) (stretched p.1.0 p.1.1.0.0) p.1.1.0.1)) (a_token w then (λ v. closed v (listed_at ds v)))
     level_at (g.comprehend h p d cs) w = becomes (λ p. (p.0.0.0.0, p.1.1, (stretched p.0.0.0.0 p.1.1, p.0.0.1.2, p.0.1))) (a_token w then member_at d then clauses_at cs then a_token)
     level_at (g.format h d) w = becomes (λ p. (p.0.0.0, p.1.1, (stretched p.0.0.0 p.1.1, stretched p.0.0.0 p.1.1, p.0.1, stretched p.0.0.0 p.1.1))) (a_token w then pieces_at d then a_token)
-    level_at (g.attribute {q} h d) w = becomes (λ p. (p.0.0.0, p.1.1, (stretched (place_at q p.0.0.2).0 p.1.1, p.0.0.2, stretched p.1.0 p.1.1))) (level_at d w then a_token then a_token)
-    level_at (g.subscript {q} h d s) w = becomes (λ p. (p.0.0.0.0, p.1.1, (stretched (place_at q p.0.0.0.2).0 p.1.1, p.0.0.0.2, p.0.1))) (level_at d w then a_token then subscript_at s then a_token)
-    level_at (g.apply {q} h d ms) w = becomes (λ p. (p.0.0.0.0, p.1.1, (stretched (place_at q p.0.0.0.2).0 p.1.1, p.0.0.0.2, p.0.1.1))) (level_at d w then a_token then listed_at ms then a_token)
+    level_at (g.attribute {q} h d) w = becomes (λ p. (p.0.0.0, p.1.1, (stretched (place_at B q p.0.0.2).0 p.1.1, p.0.0.2, stretched p.1.0 p.1.1))) (level_at d w then a_token then a_token)
+    level_at (g.subscript {q} h d s) w = becomes (λ p. (p.0.0.0.0, p.1.1, (stretched (place_at B q p.0.0.0.2).0 p.1.1, p.0.0.0.2, p.0.1))) (level_at d w then a_token then subscript_at s then a_token)
+    level_at (g.apply {q} h d ms) w = becomes (λ p. (p.0.0.0.0, p.1.1, (stretched (place_at B q p.0.0.0.2).0 p.1.1, p.0.0.0.2, p.0.1.1))) (level_at d w then a_token then listed_at ms then a_token)
     level_at (g.sign h d) w = becomes (λ p. (p.0.0, p.1.1, (stretched p.0.0 p.1.1, p.1.2))) (a_token w then level_at d)
-    level_at (g.operate {l = x} {q = y} h d f) w = becomes (λ p. (p.0.0.0, p.1.1, (stretched (place_at x p.0.0.2).0 (place_at y p.1.2).1, p.0.0.2, p.1.2))) (level_at d w then a_token then level_at f)
-    level_at (g.not_in {l = x} {q = y} h d f) w = becomes (λ p. (p.0.0.0.0, p.1.1, (stretched (place_at x p.0.0.0.2).0 (place_at y p.1.2).1, p.0.0.0.2, p.1.2))) (level_at d w then a_token then a_token then level_at f)
-    level_at (g.ternary {t = x} h d e f) w = becomes (λ p. (p.0.0.0.0.0, p.1.1, (stretched (place_at x p.0.0.0.0.2).0 p.1.1, p.0.0.1.2, p.0.0.0.0.2, p.1.2))) (level_at d w then a_token then level_at e then a_token then level_at f)
+    level_at (g.operate {l = x} {q = y} h d f) w = becomes (λ p. (p.0.0.0, p.1.1, (stretched (place_at B x p.0.0.2).0 (place_at B y p.1.2).1, p.0.0.2, p.1.2))) (level_at d w then a_token then level_at f)
+    level_at (g.not_in {l = x} {q = y} h d f) w = becomes (λ p. (p.0.0.0.0, p.1.1, (stretched (place_at B x p.0.0.0.2).0 (place_at B y p.1.2).1, p.0.0.0.2, p.1.2))) (level_at d w then a_token then a_token then level_at f)
+    level_at (g.ternary {t = x} h d e f) w = becomes (λ p. (p.0.0.0.0.0, p.1.1, (stretched (place_at B x p.0.0.0.0.2).0 p.1.1, p.0.0.1.2, p.0.0.0.0.2, p.1.2))) (level_at d w then a_token then level_at e then a_token then level_at f)
     level_at (g.abstraction h ms d) w = becomes (λ p. (p.0.0.0.0, p.1.1, (stretched p.0.0.0.0 p.1.1, p.0.0.1.1, p.1.2))) (a_token w then listed_at ms then a_token then level_at d)
     level_at (g.above d) w = level_at d w
 

@@ -85,7 +85,7 @@ module _ (B : ℕ → Type 0) (nought : B 0) where
     target_fault_at (t.list ms s) h = targets_fault_at ms h.1
     target_fault_at (t.dot x n u s) h = tt
     target_fault_at (t.index x (t.single y) s) h = tt
-    target_fault_at x h = e.place_at B nought x h
+    target_fault_at x h = e.place_at B x h
 
     targets_fault_at : (ms : Members) → MembersAt B ms → FoundAt B (targets_fault ms)
     targets_fault_at t.none h = tt
@@ -137,12 +137,12 @@ module _ (B : ℕ → Type 0) (nought : B 0) where
 
   dotted_at : (x : Expr) (ns : List Name) (m : List ℕ) (v : Extent) → ExprAt B x → ResultAt B (dotted x ns m v)
   dotted_at (t.leaf (t.name n) u s) ns m v h = banned_at (bytes_eq m (codes "type")) _ _ h.0
-  dotted_at x ns m v h = e.place_at B nought x h
+  dotted_at x ns m v h = e.place_at B x h
 
   path_at : (x : Expr) → ExprAt B x → ResultAt B (path_of x)
   path_at (t.leaf (t.name n) u s) h = tt
   path_at (t.dot x n u s) h = dotted_at (root x) (attributes x) n u (root_at x h.1)
-  path_at x h = e.place_at B nought x h
+  path_at x h = e.place_at B x h
 
   leaf_form_at : (l : Leaf) (u s : Extent) → At B s → ResultAt B (leaf_form l u s)
   leaf_form_at (t.name n) u s h = tt
@@ -189,7 +189,7 @@ module _ (B : ℕ → Type 0) (nought : B 0) where
   either_at false f g h k = k
 
   pub type_fault_at : (d : Dialect) (x : Expr) → ExprAt B x → FoundAt B (type_fault d x)
-  type_fault_at d x h = either_at (has_types d.enable_types) (first_type_fault x) (Some (breaks TypesDisabled (place x))) (form_fault_at (type_form x) (form_at alone x h)) (e.place_at B nought x h)
+  type_fault_at d x h = either_at (has_types d.enable_types) (first_type_fault x) (Some (breaks TypesDisabled (place x))) (form_fault_at (type_form x) (form_at alone x h)) (e.place_at B x h)
 
   -- ---- calls
 
@@ -256,8 +256,8 @@ module _ (B : ℕ → Type 0) (nought : B 0) where
   member_place_at (t.slash s) h = h
   member_place_at (t.no_args s) h = h
   member_place_at (t.parameter k n u a b s) h = h.0
-  member_place_at (t.item x) h = e.place_at B nought x h
-  member_place_at (t.pair x y) h = merged_at (place x) (place y) (e.place_at B nought x h.0) (e.place_at B nought y h.1)
+  member_place_at (t.item x) h = e.place_at B x h
+  member_place_at (t.pair x y) h = merged_at (place x) (place y) (e.place_at B x h.0) (e.place_at B y h.1)
   member_place_at (t.positional x s) h = h.0
   member_place_at (t.named n u x s) h = h.0
   member_place_at (t.args x s) h = h.0

@@ -36,6 +36,7 @@ pub mod EndsOfStatements
 pub mod EndsOfRules
 pub mod EndsOfMarks
 pub mod EndsOfRefusals
+pub mod EndsOfReplaced
 pub mod Examples
 mod ExamplesOfExpressions
 mod ExamplesOfStatements

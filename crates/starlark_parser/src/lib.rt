@@ -36,6 +36,7 @@ mod parsing;
 mod parts;
 mod read;
 mod refused;
+mod replacing;
 mod row;
 mod signature;
 mod signs;
