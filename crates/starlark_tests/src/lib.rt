@@ -11,6 +11,8 @@ mod parsing;
 #[cfg(test)]
 mod prints;
 #[cfg(test)]
+mod replacing;
+#[cfg(test)]
 mod rules;
 #[cfg(test)]
 mod suppressions;
