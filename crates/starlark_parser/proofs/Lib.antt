@@ -63,7 +63,6 @@ pub mod Loading
 pub mod Rows
 pub mod Signing
 pub mod Answering
-pub mod Making
 pub mod Faulting
 pub mod Ended
 pub mod Costing

@@ -11,7 +11,7 @@ use Rattle.starlark_rules.specs.Targets.{target_fault, target_of}
 use Rattle.starlark_rules.specs.View.{finding_of, maybe_finding}
 use Rattle.starlark_parser.specs.declared.error.Error.{Error}
 use Rattle.starlark_parser.specs.Events.{looped, shaped, after_comma}
-use Rattle.starlark_parser.specs.Made.{clauses_of}
+use Rattle.starlark_make.specs.Made.{clauses_of}
 use Rattle.starlark_parser.specs.Nodes.{start}
 use Rattle.starlark_parser.specs.Spans.{stretch}
 use Rattle.starlark_parser.specs.Tables.{Bracket, round, square, curly, closing_bracket, level_of}

@@ -8,7 +8,7 @@ use Rattle.starlark_rules.specs.Rules.{LoadIdentifier, breaks}
 use Rattle.starlark_parser.specs.Events.{shaped, after_symbol}
 use Rattle.starlark_parser.specs.Frames.{Line, load_behind, load_equal, load_module, load_named, load_opens, load_other, load_symbol}
 use Rattle.starlark_parser.specs.Machine.{end_symbol, move}
-use Rattle.starlark_parser.specs.Made.{symbols_of}
+use Rattle.starlark_make.specs.Made.{symbols_of}
 use Rattle.starlark_parser.specs.Nodes.{start}
 use Rattle.starlark_parser.specs.Reads.{Left, first_lexeme, name_ahead, string_ahead, string_of, Passes, Goes, Sticks, Answers}
 use Rattle.starlark_parser.specs.Sorts.{name_of, sort}

@@ -10,7 +10,7 @@ use Rattle.starlark_parser.specs.Frames.{Rows, State, at_line, behind_small, lin
 use Rattle.starlark_parser.specs.Machine.{end_row, end_small, move}
 use Rattle.starlark_parser.specs.Runs.{run}
 use Rattle.starlark_parser.specs.Verdicts.{Unexpected, judge}
-use Rattle.starlark_parser.specs.Made.{sequence_of}
+use Rattle.starlark_make.specs.Made.{sequence_of}
 use Rattle.starlark_parser.specs.Nodes.{block_of, first_begin, start}
 use Rattle.starlark_parser.specs.Reads.{Left, first_lexeme, Passes, Goes, Sticks}
 use Rattle.starlark_parser.specs.Spans.{stretch}

@@ -4,7 +4,7 @@ use Rattle.std.specs.Bool.{⊤}
 use Rattle.starlark_lexer.specs.Items.{Lexeme, Item, item, colon, comma, closing_square}
 use Rattle.starlark_lexer.specs.declared.dialect.Dialect.{Dialect}
 use Rattle.starlark_ast.specs.Tree as tree
-use Rattle.starlark_parser.specs.Made.{bound_of}
+use Rattle.starlark_make.specs.Made.{bound_of}
 use Rattle.starlark_parser.specs.Nodes.{from}
 use Rattle.starlark_parser.specs.Points.{Bounds, at_first, at_second, at_third, bound, bound_wanted, second}
 use Rattle.starlark_parser.specs.Frames.{Frames, inside, wants, has, stands}

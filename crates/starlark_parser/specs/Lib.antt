@@ -26,14 +26,12 @@ pub mod Tallies
 pub mod Asides
 pub mod Reads
 pub mod Counted
-pub mod Made
 pub mod Gathered
 pub mod Assigning
 pub mod Lines
 pub mod Signature
 pub mod Refused
 pub mod Faults
-pub mod Trees
 pub mod Modules
 pub mod Loaded
 pub mod Locations

@@ -6,7 +6,7 @@ ghost use Rattle.starlark_lexer.specs.declared.dialect.Dialect.{Dialect};
 ghost use Rattle.starlark_ast.specs.Tree as tree;
 ghost use Rattle.starlark_ast.specs.Tree.{Annotation, Expr};
 ghost use Rattle.starlark_parser.specs.Assigning.{IsWhole, assign_op_ahead, behind_left};
-ghost use Rattle.starlark_parser.specs.Made.{annotation_of};
+ghost use Rattle.starlark_make.specs.Made.{annotation_of};
 ghost use Rattle.starlark_parser.specs.Nodes.{start};
 ghost use Rattle.starlark_parser.specs.Frames.{Line, behind_small, first, has, left, listed, right, spot, wants, wants_list};
 ghost use Rattle.starlark_parser.specs.Reads.{Comes, first_lexeme};

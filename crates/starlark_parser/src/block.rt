@@ -2,7 +2,7 @@
 
 ghost use Rattle.std.specs.Prelude.{◌≡◌, [], ◌∷◌, List};
 ghost use Rattle.starlark_ast.specs.Tree.{statement_place};
-ghost use Rattle.starlark_parser.specs.Made.{sequence_of};
+ghost use Rattle.starlark_make.specs.Made.{sequence_of};
 ghost use Rattle.starlark_parser.specs.Nodes.{block_of};
 
 use crate::build::Build;

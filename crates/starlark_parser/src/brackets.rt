@@ -5,7 +5,7 @@ ghost use Rattle.starlark_lexer.specs.Items.{closing_curly};
 ghost use Rattle.starlark_lexer.specs.declared.dialect.Dialect.{Dialect};
 ghost use Rattle.starlark_ast.specs.Tree as tree;
 ghost use Rattle.starlark_parser.specs.Kinds.{is_plain, token_of};
-ghost use Rattle.starlark_parser.specs.Made.{items_of, pairs_of};
+ghost use Rattle.starlark_make.specs.Made.{items_of, pairs_of};
 ghost use Rattle.starlark_parser.specs.Nodes.{start};
 ghost use Rattle.starlark_parser.specs.Spans.{stretch};
 ghost use Rattle.starlark_parser.specs.Tables.{Bracket, curly, closing_bracket, kind_in, tests};

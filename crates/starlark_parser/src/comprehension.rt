@@ -4,7 +4,7 @@ ghost use Rattle.std.specs.Prelude.{◌≡◌, ◌<◌, ℕ, true, false, OnOk, 
 ghost use Rattle.starlark_lexer.specs.declared.dialect.Dialect.{Dialect};
 ghost use Rattle.starlark_ast.specs.Tree as tree;
 ghost use Rattle.starlark_parser.specs.Kinds.{is_plain, token_of};
-ghost use Rattle.starlark_parser.specs.Made.{clauses_of};
+ghost use Rattle.starlark_make.specs.Made.{clauses_of};
 ghost use Rattle.starlark_parser.specs.Spans.{stretch};
 ghost use Rattle.starlark_parser.specs.Tables.{Bracket, closing_bracket};
 ghost use Rattle.starlark_parser.specs.Points.{clauses_read, member_wanted, targets_in};

@@ -5,7 +5,7 @@ ghost use Rattle.starlark_lexer.specs.Items.{closing_round, item, string};
 ghost use Rattle.starlark_lexer.specs.declared.dialect.Dialect.{Dialect};
 ghost use Rattle.starlark_ast.specs.Tree.{Name, Symbols, load, name_at, no_symbols, symbol};
 ghost use Rattle.starlark_parser.specs.Frames.{Line, behind_small, load_behind, load_opens, load_symbol};
-ghost use Rattle.starlark_parser.specs.Made.{symbols_of};
+ghost use Rattle.starlark_make.specs.Made.{symbols_of};
 ghost use Rattle.starlark_parser.specs.Nodes.{start};
 ghost use Rattle.starlark_parser.specs.Reads.{Comes, Passes, first_lexeme, string_ahead};
 ghost use Rattle.starlark_parser.specs.Spans.{stretch};

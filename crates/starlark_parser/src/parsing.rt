@@ -13,10 +13,10 @@ use crate::feed::Told;
 use crate::module::AstModule;
 use crate::read::read;
 use crate::text_laws::held_places;
-use crate::trees::Trees;
 use starlark_lexer::dialect::Dialect;
 use starlark_lexer::laws::in_order;
 use starlark_lexer::lexer::Lexer;
+use starlark_make::trees::Trees;
 use starlark_place::codemap::{CodeMap, CodeMapId};
 use std::alloc::Global;
 

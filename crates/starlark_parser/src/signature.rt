@@ -6,7 +6,7 @@ ghost use Rattle.starlark_lexer.specs.declared.dialect.Dialect.{Dialect};
 ghost use Rattle.starlark_ast.specs.Tree as tree;
 ghost use Rattle.starlark_ast.specs.View.{members};
 ghost use Rattle.starlark_parser.specs.Frames.{Head, of_def, def_opens, wants_param, behind_star, behind_stars, behind_name, behind_param, wants_result, wants_suite};
-ghost use Rattle.starlark_parser.specs.Made.{annotation_of, bound_of};
+ghost use Rattle.starlark_make.specs.Made.{annotation_of, bound_of};
 ghost use Rattle.starlark_parser.specs.Nodes.{named};
 ghost use Rattle.starlark_parser.specs.Reads.{Comes, first_lexeme};
 ghost use Rattle.starlark_parser.specs.Signature.{IsWhole, behind_type};

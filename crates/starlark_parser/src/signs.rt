@@ -4,19 +4,20 @@ ghost use Rattle.std.specs.Prelude.{ℕ, ◌≡◌, ◌≢◌, ◌⊎◌, ◌+�
 ghost use Rattle.starlark_lexer.specs.Items.{keyword_lambda};
 ghost use Rattle.starlark_lexer.specs.declared.dialect.Dialect.{Dialect};
 ghost use Rattle.starlark_ast.specs.Tree as tree;
-ghost use Rattle.starlark_parser.specs.Made.{maybe_sign, sign_of};
+ghost use Rattle.starlark_make.specs.Made.{maybe_sign, sign_of};
 ghost use Rattle.starlark_parser.specs.Nodes.{start};
 ghost use Rattle.starlark_parser.specs.Points.{before_body, behind_sign, member_wanted};
 ghost use Rattle.starlark_parser.specs.Frames.{Frames, has, inside, stands, wants};
 ghost use Rattle.starlark_parser.specs.Machine.{tails};
 ghost use Rattle.starlark_parser.specs.Reads.{Comes, begins_ahead, first_lexeme, sign_ahead};
 
-use crate::build::{Build, Sign};
+use crate::build::Build;
 use crate::error::Error;
 use crate::expression::expression;
 use crate::kind::Kind;
 use crate::parameters::lambda_parameters;
 use crate::tokens::Tokens;
+use starlark_make::make::Sign;
 use starlark_place::pos::Pos;
 
 /// A sign, where one stands ahead: what is behind it is of that level.

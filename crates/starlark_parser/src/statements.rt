@@ -3,7 +3,7 @@
 ghost use Rattle.std.specs.Prelude.{◌≡◌, [], IfOk};
 ghost use Rattle.starlark_ast.specs.Tree.{no_statements};
 ghost use Rattle.starlark_parser.specs.Frames.{at_line, outer};
-ghost use Rattle.starlark_parser.specs.Made.{sequence_of};
+ghost use Rattle.starlark_make.specs.Made.{sequence_of};
 ghost use Rattle.starlark_parser.specs.Reads.{Comes};
 
 use crate::build::Build;

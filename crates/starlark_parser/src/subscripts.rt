@@ -4,7 +4,7 @@ ghost use Rattle.std.specs.Prelude.{◌≡◌, ◌⊎◌, ⊤, ◌<◌, ◌≤�
 ghost use Rattle.starlark_lexer.specs.Items.{closing_square, colon};
 ghost use Rattle.starlark_lexer.specs.declared.dialect.Dialect.{Dialect};
 ghost use Rattle.starlark_ast.specs.Tree as tree;
-ghost use Rattle.starlark_parser.specs.Made.{bound_of};
+ghost use Rattle.starlark_make.specs.Made.{bound_of};
 ghost use Rattle.starlark_parser.specs.Points.{Bounds, at_first, at_second, at_third, bound_wanted, second};
 ghost use Rattle.starlark_parser.specs.Frames.{Frames, has, inside, stands, wants};
 ghost use Rattle.starlark_parser.specs.Reads.{Comes, bound_at, first_lexeme};

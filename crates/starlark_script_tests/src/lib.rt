@@ -1,4 +1,4 @@
-//! Tests of scripts: devices that fail, limits, the scripts of `starlark_outline` by short reads and writes; and of parts.
+//! Tests of scripts: devices that fail, limits, the scripts of `starlark_outline` by short reads and writes.
 //! It has no code of its own, so the crates below it are proved once.
 #![tactic(auto)]
 
@@ -8,5 +8,3 @@ mod cases;
 mod devices;
 #[cfg(test)]
 mod limits;
-#[cfg(test)]
-mod parts;

@@ -5,18 +5,12 @@ ghost use Rattle.starlark_place.specs.Place.{extent};
 
 use starlark_lexer::dialect::Dialect;
 use starlark_parser::module::AstModule;
-use starlark_place::codemap::{CodeMap, CodeMapId};
+use starlark_place::codemap::CodeMapId;
 use starlark_place::pos::{Pos, Span};
 use std::alloc::{AllocError, Global};
 use std::fmt::{Debug, Display};
 use std::process::Abort;
 use std::test::Fail;
-
-pub(crate) fn map_of(alloc: Global, id: u64, name: &str, source: &str) -> Result<CodeMap, Fail> {
-    let name = String::from_str(alloc, name)?;
-    let source = String::from_str(alloc, source)?;
-    Ok(CodeMap::new(alloc, CodeMapId(id), name, source)?)
-}
 
 pub(crate) fn prints(
     rt: &impl Abort,

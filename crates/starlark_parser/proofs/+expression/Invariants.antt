@@ -7,7 +7,7 @@ use Rattle.starlark_ast.specs.View.{members}
 use Rattle.starlark_parser.proofs.Arguing.{Wanted}
 use Rattle.starlark_ast.specs.Tree as tree
 use Rattle.starlark_parser.specs.Kinds.{token_of}
-use Rattle.starlark_parser.specs.Made.{items_of, pairs_of, clauses_of}
+use Rattle.starlark_make.specs.Made.{items_of, pairs_of, clauses_of}
 use Rattle.starlark_parser.specs.Tables.{Bracket, closing_bracket, kind_in, tests, curly, level_of}
 use Rattle.starlark_parser.specs.Points.{brackets, member_wanted, clauses_read, targets_in, piece_wanted, before_body, member_read}
 use Rattle.starlark_parser.proofs.Listing.{behind_comma}
@@ -28,7 +28,7 @@ decreases-operators::operators g l = 8 * length l.tokens.now.items + 0
 
 abbrev pub invariant-operators::operators-loop-floor : goal.invariant-operators::operators-loop-floor
 invariant-operators::operators-loop-floor g l = record {
-  reads : (d : Dialect) (c b : ℕ) (k : Frames) → c + l.fn.floor ≡ suc l.fn.level → b + l.floor ≡ suc l.fn.level → Goes d (has (g.B.Build.means l.fn.left) l.fn.tokens.last (tails c l.fn.floor k)) l.fn.tokens (has (g.B.Build.means l.left) l.tokens.last (tails b l.floor k)) l.tokens;
+  reads : (d : Dialect) (c b : ℕ) (k : Frames) → c + l.fn.floor ≡ suc l.fn.level → b + l.floor ≡ suc l.fn.level → Goes d (has (g.B.Make.means l.fn.left) l.fn.tokens.last (tails c l.fn.floor k)) l.fn.tokens (has (g.B.Make.means l.left) l.tokens.last (tails b l.floor k)) l.tokens;
   low : 1 ≤ l.floor;
   below : l.floor ≤ suc l.fn.level;
   shorter : length l.tokens.items ≤ length l.fn.tokens.items;
@@ -45,7 +45,7 @@ decreases-suffixes::suffixes g l = 8 * length l.tokens.now.items + 0
 
 abbrev pub invariant-suffixes::suffixes-loop-tokens : goal.invariant-suffixes::suffixes-loop-tokens
 invariant-suffixes::suffixes-loop-tokens g l = record {
-  reads : (d : Dialect) (k : Frames) → Goes d (has (g.B.Build.means l.fn.left) l.fn.tokens.last (tail 0 k)) l.fn.tokens (has (g.B.Build.means l.left) l.tokens.last (tail 0 k)) l.tokens;
+  reads : (d : Dialect) (k : Frames) → Goes d (has (g.B.Make.means l.fn.left) l.fn.tokens.last (tail 0 k)) l.fn.tokens (has (g.B.Make.means l.left) l.tokens.last (tail 0 k)) l.tokens;
   shorter : length l.tokens.items ≤ length l.fn.tokens.items;
 }
 
@@ -60,7 +60,7 @@ decreases-arguments::arguments g l = 8 * length l.tokens.now.items + 4
 
 abbrev pub invariant-arguments::arguments-loop-found : goal.invariant-arguments::arguments-loop-found
 invariant-arguments::arguments-loop-found g l = record {
-  reads : (d : Dialect) (q : tree.Expr) (k : Frames) → Wanted d q k l.fn.tokens (members g.B.Build.argument_means l.found.items) l.tokens;
+  reads : (d : Dialect) (q : tree.Expr) (k : Frames) → Wanted d q k l.fn.tokens (members g.B.Make.argument_means l.found.items) l.tokens;
   shorter : length l.tokens.items ≤ length l.fn.tokens.items;
 }
 
@@ -105,8 +105,8 @@ decreases-brackets::members_behind g l = 8 * length l.tokens.now.items + 3
 
 abbrev pub invariant-brackets::members_behind-loop-members : goal.invariant-brackets::members_behind-loop-members
 invariant-brackets::members_behind-loop-members g l = record {
-  reads : (d : Dialect) (p : Bracket) (b : ℕ) (k : Frames) → kind_in p ≡ tests → token_of l.fn.closing ≡ closing_bracket p → Goes d (stands (member_wanted (brackets p b) (tree.more tree.none (tree.item (g.B.Build.means l.fn.first))) true l.fn.tokens.last l.fn.begin) k) l.fn.tokens (stands (member_wanted (brackets p b) (items_of g.B.Build.means l.members.items) true l.tokens.last l.fn.begin) k) l.tokens;
-  filled : items_of g.B.Build.means l.members.items ≢ tree.none;
+  reads : (d : Dialect) (p : Bracket) (b : ℕ) (k : Frames) → kind_in p ≡ tests → token_of l.fn.closing ≡ closing_bracket p → Goes d (stands (member_wanted (brackets p b) (tree.more tree.none (tree.item (g.B.Make.means l.fn.first))) true l.fn.tokens.last l.fn.begin) k) l.fn.tokens (stands (member_wanted (brackets p b) (items_of g.B.Make.means l.members.items) true l.tokens.last l.fn.begin) k) l.tokens;
+  filled : items_of g.B.Make.means l.members.items ≢ tree.none;
   shorter : length l.tokens.items ≤ length l.fn.tokens.items;
 }
 
@@ -121,8 +121,8 @@ decreases-brackets::pairs_behind g l = 8 * length l.tokens.now.items + 4
 
 abbrev pub invariant-brackets::pairs_behind-loop-members : goal.invariant-brackets::pairs_behind-loop-members
 invariant-brackets::pairs_behind-loop-members g l = record {
-  reads : (d : Dialect) (b f : ℕ) (k : Frames) → Goes d (stands (member_wanted (brackets curly b) (tree.more tree.none (tree.pair (g.B.Build.means l.fn.first.0) (g.B.Build.means l.fn.first.1))) true l.fn.tokens.last f) k) l.fn.tokens (stands (member_wanted (brackets curly b) (pairs_of g.B.Build.means l.members.items) true l.tokens.last f) k) l.tokens;
-  filled : pairs_of g.B.Build.means l.members.items ≢ tree.none;
+  reads : (d : Dialect) (b f : ℕ) (k : Frames) → Goes d (stands (member_wanted (brackets curly b) (tree.more tree.none (tree.pair (g.B.Make.means l.fn.first.0) (g.B.Make.means l.fn.first.1))) true l.fn.tokens.last f) k) l.fn.tokens (stands (member_wanted (brackets curly b) (pairs_of g.B.Make.means l.members.items) true l.tokens.last f) k) l.tokens;
+  filled : pairs_of g.B.Make.means l.members.items ≢ tree.none;
   shorter : length l.tokens.items ≤ length l.fn.tokens.items;
 }
 
@@ -134,7 +134,7 @@ decreases-comprehension::clauses g l = 8 * length l.tokens.now.items + 6
 
 abbrev pub invariant-comprehension::clauses-loop-rest : goal.invariant-comprehension::clauses-loop-rest
 invariant-comprehension::clauses-loop-rest g l = record {
-  reads : (d : Dialect) (p : Bracket) (b : ℕ) (m : tree.Member) (k : Frames) → Goes d (stands (member_wanted (targets_in p b m tree.no_clauses) tree.none false 0 0) k) l.fn.tokens (stands (clauses_read p b m (clauses_of (g.B.Build.for_means l.first) g.B.Build.clause_means l.rest.items)) k) l.tokens;
+  reads : (d : Dialect) (p : Bracket) (b : ℕ) (m : tree.Member) (k : Frames) → Goes d (stands (member_wanted (targets_in p b m tree.no_clauses) tree.none false 0 0) k) l.fn.tokens (stands (clauses_read p b m (clauses_of (g.B.Make.for_means l.first) g.B.Make.clause_means l.rest.items)) k) l.tokens;
   shorter : length l.tokens.items < length l.fn.tokens.items;
 }
 
@@ -152,8 +152,8 @@ decreases-listed::listed_behind g l = 8 * length l.tokens.now.items + 3
 
 abbrev pub invariant-listed::listed_behind-loop-begin : goal.invariant-listed::listed_behind-loop-begin
 invariant-listed::listed_behind-loop-begin g l = record {
-  reads : (d : Dialect) (k : Unbracketed) → level_of (kind_within k) ≡ l.fn.level → Goes d (has (g.B.Build.means l.fn.first) l.fn.tokens.last (one_of k tree.none l.fn.begin)) l.fn.tokens (behind_comma k (items_of g.B.Build.means l.members.items) l.fn.begin l.tokens.last) l.tokens;
-  filled : items_of g.B.Build.means l.members.items ≢ tree.none;
+  reads : (d : Dialect) (k : Unbracketed) → level_of (kind_within k) ≡ l.fn.level → Goes d (has (g.B.Make.means l.fn.first) l.fn.tokens.last (one_of k tree.none l.fn.begin)) l.fn.tokens (behind_comma k (items_of g.B.Make.means l.members.items) l.fn.begin l.tokens.last) l.tokens;
+  filled : items_of g.B.Make.means l.members.items ≢ tree.none;
   shorter : length l.tokens.items ≤ length l.fn.tokens.items;
 }
 
@@ -165,7 +165,7 @@ decreases-f_string::f_string g l = 8 * length l.tokens.now.items + 0
 
 abbrev pub invariant-f_string::f_string-loop-fields : goal.invariant-f_string::f_string-loop-fields
 invariant-f_string::f_string-loop-fields g l = record {
-  reads : (d : Dialect) (k : Frames) → Goes d (stands (piece_wanted l.fn.begin [] tree.none) k) l.fn.tokens (stands (piece_wanted l.fn.begin (string_bytes l.format) (items_of g.B.Build.means l.fields.items)) k) l.tokens;
+  reads : (d : Dialect) (k : Frames) → Goes d (stands (piece_wanted l.fn.begin [] tree.none) k) l.fn.tokens (stands (piece_wanted l.fn.begin (string_bytes l.format) (items_of g.B.Make.means l.fields.items)) k) l.tokens;
   shorter : length l.tokens.items ≤ length l.fn.tokens.items;
 }
 
@@ -180,8 +180,8 @@ decreases-parameters::lambda_parameters g l = 8 * length l.tokens.now.items + 4
 
 abbrev pub invariant-parameters::lambda_parameters-loop-found : goal.invariant-parameters::lambda_parameters-loop-found
 invariant-parameters::lambda_parameters-loop-found g l = record {
-  reads : (d : Dialect) (b : ℕ) (k : Frames) → Goes d (stands (member_wanted (before_body b) tree.none false 0 0) k) l.fn.tokens (stands (member_read (before_body b) (members g.B.Build.parameter_means l.found.items) l.tokens.last (start l.fn.tokens.items)) k) l.tokens;
-  filled : members g.B.Build.parameter_means l.found.items ≢ tree.none;
+  reads : (d : Dialect) (b : ℕ) (k : Frames) → Goes d (stands (member_wanted (before_body b) tree.none false 0 0) k) l.fn.tokens (stands (member_read (before_body b) (members g.B.Make.parameter_means l.found.items) l.tokens.last (start l.fn.tokens.items)) k) l.tokens;
+  filled : members g.B.Make.parameter_means l.found.items ≢ tree.none;
   shorter : length l.tokens.items < length l.fn.tokens.items;
 }
 

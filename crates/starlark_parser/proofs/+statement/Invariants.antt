@@ -1,7 +1,7 @@
 use Rattle.std.proofs.Common.{ℕ, ◌+◌, ◌*◌, ◌≡◌, ◌≢◌, ◌≤◌, length, vec_len}
 use Rattle.starlark_ast.specs.Tree.{no_statements}
 use Rattle.starlark_parser.specs.Frames.{Suites, at_line, inner, wants_indent}
-use Rattle.starlark_parser.specs.Made.{sequence_of}
+use Rattle.starlark_make.specs.Made.{sequence_of}
 use Rattle.starlark_parser.specs.Reads.{Goes}
 use Rattle.starlark_parser.proofs.+statement.Given as goal
 
@@ -37,9 +37,9 @@ decreases-suite::lines g l = 2 * length l.tokens.now.items + 1
 
 abbrev pub invariant-suite::lines-loop-statements : goal.invariant-suite::lines-loop-statements
 invariant-suite::lines-loop-statements g l = record {
-  reads : (k : Suites) (e : ℕ) → Goes l.fn.dialect (at_line (inner no_statements k) e) l.fn.tokens (at_line (inner (sequence_of g.B.Build.says l.statements.items) k) l.tokens.last) l.tokens;
-  empty : vec_len l.statements ≡ 0 → sequence_of g.B.Build.says l.statements.items ≡ no_statements;
-  filled : vec_len l.statements ≢ 0 → sequence_of g.B.Build.says l.statements.items ≢ no_statements;
+  reads : (k : Suites) (e : ℕ) → Goes l.fn.dialect (at_line (inner no_statements k) e) l.fn.tokens (at_line (inner (sequence_of g.B.Make.says l.statements.items) k) l.tokens.last) l.tokens;
+  empty : vec_len l.statements ≡ 0 → sequence_of g.B.Make.says l.statements.items ≡ no_statements;
+  filled : vec_len l.statements ≢ 0 → sequence_of g.B.Make.says l.statements.items ≢ no_statements;
   shorter : length l.tokens.items ≤ length l.fn.tokens.items;
 }
 

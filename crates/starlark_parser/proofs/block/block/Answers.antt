@@ -1,13 +1,13 @@
 use Rattle.std.proofs.Common.{◌≡◌, ap, ◌∙◌, rules, arith, length, max}
 use Rattle.starlark_place.specs.Place.{extent}
 use Rattle.starlark_ast.specs.Tree.{block}
-use Rattle.starlark_parser.specs.Made.{sequence_of}
+use Rattle.starlark_make.specs.Made.{sequence_of}
 use Rattle.starlark_parser.proofs.Rows.{block_of_others}
 use Rattle.starlark_parser.proofs.block.block.Goals as goal
 
 pub returns : goal.returns
 returns g c =
-    let f = g.B.Build.says in
+    let f = g.B.Make.says in
     let xs = c.args.statements.items in
     let b = c.begin_of-begin.result in
     let end : c.max.result ≡ max b c.args.end = search rules in

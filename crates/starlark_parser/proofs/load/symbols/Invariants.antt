@@ -2,13 +2,13 @@ use Rattle.std.proofs.Common.{ℕ, ◌≤◌, length}
 use Rattle.starlark_lexer.specs.declared.dialect.Dialect.{Dialect}
 use Rattle.starlark_ast.specs.Tree.{Name, no_symbols}
 use Rattle.starlark_parser.specs.Frames.{Line, load_symbol}
-use Rattle.starlark_parser.specs.Made.{symbols_of}
+use Rattle.starlark_make.specs.Made.{symbols_of}
 use Rattle.starlark_parser.specs.Reads.{Goes}
 use Rattle.starlark_parser.proofs.load.symbols.Given as goal
 
 abbrev pub invariant-loop-found : goal.invariant-loop-found
 invariant-loop-found g l = record {
-  reads : (d : Dialect) (p : ℕ) (m : Name) (k : Line) → Goes d (load_symbol p m no_symbols k) l.fn.tokens (load_symbol p m (symbols_of g.B.Build.symbol_means l.found.items) k) l.tokens;
+  reads : (d : Dialect) (p : ℕ) (m : Name) (k : Line) → Goes d (load_symbol p m no_symbols k) l.fn.tokens (load_symbol p m (symbols_of g.B.Make.symbol_means l.found.items) k) l.tokens;
   shorter : length l.tokens.items ≤ length l.fn.tokens.items;
 }
 

@@ -1,6 +1,6 @@
 use Rattle.std.proofs.Common.{rules, refl, ap, sym, ◌∙◌}
 use Rattle.starlark_rules.specs.View.{maybe_finding}
-use Rattle.starlark_parser.specs.Made.{sequence_of}
+use Rattle.starlark_make.specs.Made.{sequence_of}
 use Rattle.starlark_parser.specs.Nodes.{block_of}
 use Rattle.starlark_parser.proofs.Answering.{broken_from, fault_is, fine_is, given, read_as, read_from, spoilt_is, stuck_from}
 use Rattle.starlark_parser.proofs.read.program.Goals as goal
@@ -16,14 +16,14 @@ returns-in-Some-clause-refused g c l a w = given c.in-Some.ensures.1 (fault_is (
 
 pub returns-in-Some-2-clause-refused : goal.returns-in-Some-2-clause-refused
 returns-in-Some-2-clause-refused g c l a w =
-    let ss = sequence_of g.B.Build.says c.in-Ok.statements.items in
-    let r = read_as (g.B.Build.says c.block-tree.result) (read_from _ ss w (c.statements.ensures.reads.comes c.in-Ok.statements (search rules)) c.in-Ok.ensures.whole) (c.block-tree.ensures ∙ ap (block_of ss) c.last.ensures) in
+    let ss = sequence_of g.B.Make.says c.in-Ok.statements.items in
+    let r = read_as (g.B.Make.says c.block-tree.result) (read_from _ ss w (c.statements.ensures.reads.comes c.in-Ok.statements (search rules)) c.in-Ok.ensures.whole) (c.block-tree.ensures ∙ ap (block_of ss) c.last.ensures) in
     given refl (spoilt_is c.in-Some-2.rule r (c.in_default.ensures c.in-Ok.ensures.whole) (sym c.in_ok-rule.ensures ∙ ap maybe_finding c.in-Some-2.is))
 
 pub returns-in-None-clause-whole : goal.returns-in-None-clause-whole
 returns-in-None-clause-whole g c l a w =
-    let ss = sequence_of g.B.Build.says c.in-Ok.statements.items in
-    let r = read_as (g.B.Build.says c.block-tree.result) (read_from _ ss w (c.statements.ensures.reads.comes c.in-Ok.statements (search rules)) c.in-Ok.ensures.whole) (c.block-tree.ensures ∙ ap (block_of ss) c.last.ensures) in
+    let ss = sequence_of g.B.Make.says c.in-Ok.statements.items in
+    let r = read_as (g.B.Make.says c.block-tree.result) (read_from _ ss w (c.statements.ensures.reads.comes c.in-Ok.statements (search rules)) c.in-Ok.ensures.whole) (c.block-tree.ensures ∙ ap (block_of ss) c.last.ensures) in
     fine_is r (c.in_default.ensures c.in-Ok.ensures.whole) (sym c.in_ok-rule.ensures ∙ ap maybe_finding c.in-None.is)
 
 pub returns-in-None-clause-ended : goal.returns-in-None-clause-ended

@@ -6,7 +6,7 @@ use Rattle.starlark_parser.proofs.signature.def_parameters.Given as goal
 
 abbrev pub invariant-loop-found : goal.invariant-loop-found
 invariant-loop-found g l = record {
-  reads : (h : Head) → Goes l.fn.dialect (def_opens h) l.fn.tokens (wants_param h (members g.B.Build.parameter_means l.found.items)) l.tokens;
+  reads : (h : Head) → Goes l.fn.dialect (def_opens h) l.fn.tokens (wants_param h (members g.B.Make.parameter_means l.found.items)) l.tokens;
   shorter : length l.tokens.items < length l.fn.tokens.items;
 }
 

@@ -1,5 +1,5 @@
 use Rattle.std.proofs.Common.{◌∙◌, ap, sym}
-use Rattle.starlark_parser.specs.Made.{maybe_sign, sign_of}
+use Rattle.starlark_make.specs.Made.{maybe_sign, sign_of}
 use Rattle.starlark_parser.proofs.Exits.{gives}
 use Rattle.starlark_parser.proofs.Beginning.{not_none, sign_next, some_sign}
 use Rattle.starlark_parser.proofs.signs.sign.Goals as goal

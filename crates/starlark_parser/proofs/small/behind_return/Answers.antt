@@ -15,6 +15,6 @@ returns-in_err-value-clause-reads g c d k = exits (search rules) (return_opens _
 
 pub returns-clause-reads : goal.returns-clause-reads
 returns-clause-reads g c d k =
-    let q = g.B.Build.means c.in_ok-value.value in
+    let q = g.B.Make.means c.in_ok-value.value in
     let all = return_opens _ _ k _ (sym c.if-not-begins_test.ensures) >> (c.in_ok-value.ensures.reads d (in_statement (returned c.args.begin k)) refl).comes _ refl in
     gives (assigned_as _ (all >> returns_some q _ _ _ k _ c.in_ok-value.ensures.ends) (c.return_statement-2.ensures ∙ ap (tree.return (Some q)) c.since-2.ensures))

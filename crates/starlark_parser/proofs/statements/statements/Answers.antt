@@ -2,7 +2,7 @@ use Rattle.std.proofs.Common.{refl, ap, sym, ◌∙◌, rules}
 use Rattle.starlark_lexer.specs.Items.{newline}
 use Rattle.starlark_parser.specs.declared.kind.Kind.TheVariants as kind
 use Rattle.starlark_parser.specs.Frames.{at_line, outer}
-use Rattle.starlark_parser.specs.Made.{sequence_of}
+use Rattle.starlark_make.specs.Made.{sequence_of}
 use Rattle.starlark_parser.proofs.Exits.{◌>>◌, exits, goes, left_it, read_it, refuses, renamed, state_is, sticks}
 use Rattle.starlark_parser.proofs.Plain.{stands, stands_not}
 use Rattle.starlark_parser.proofs.Rows.{no_suite_end, some_there, statement_more}
@@ -15,13 +15,13 @@ loop-found-preserved-then-branch g c = c.loop-found.invariant >> goes (read_it _
 pub returns-in-Dedent-clause-reads : goal.returns-in-Dedent-clause-reads
 returns-in-Dedent-clause-reads g c =
     let n = left_it _ _ newline _ c.if-branch.false c.in_ok-accept.ensures in
-    let ss = sequence_of g.B.Build.says c.loop-found.found.items in
+    let ss = sequence_of g.B.Make.says c.loop-found.found.items in
     refuses (sticks (c.loop-found.invariant >> renamed n.0) (no_suite_end ss _ _ (stands _ kind.Dedent refl (sym c.kind.ensures ∙ c.in-Dedent.is))))
 
 pub returns-in_err-next-in_default : goal.returns-in_err-next-in_default
 returns-in_err-next-in_default g c =
     let n = left_it _ _ newline _ c.if-branch.false c.in_ok-accept.ensures in
-    let ss = sequence_of g.B.Build.says c.loop-found.found.items in
+    let ss = sequence_of g.B.Make.says c.loop-found.found.items in
     let there = some_there _ (λ h. c.in_default.not-End (c.kind.ensures ∙ h)) in
     let inside = stands_not _ kind.Dedent refl (λ h. c.in_default.not-Dedent (c.kind.ensures ∙ h)) in
     record {
@@ -32,7 +32,7 @@ returns-in_err-next-in_default g c =
 pub loop-found-preserved : goal.loop-found-preserved
 loop-found-preserved g c =
     let n = left_it _ _ newline _ c.if-branch.false c.in_ok-accept.ensures in
-    let f = g.B.Build.says in
+    let f = g.B.Make.says in
     let ss = sequence_of f c.loop-found.found.items in
     let there = some_there _ (λ h. c.in_default.not-End (c.kind.ensures ∙ h)) in
     let inside = stands_not _ kind.Dedent refl (λ h. c.in_default.not-Dedent (c.kind.ensures ∙ h)) in

@@ -12,13 +12,13 @@ returns-in_err-found-clause-reads g c k w = exits (search rules) begins (c.in_er
 
 pub returns-then-not-has_types-clause-reads : goal.returns-then-not-has_types-clause-reads
 returns-then-not-has_types-clause-reads g c k w =
-    let q = g.B.Build.means c.in_ok-found.found in
+    let q = g.B.Make.means c.in_ok-found.found in
     let d = c.args.dialect.now in
     halts (answers ((c.in_ok-found.ensures.reads d (spot k)).comes _ refl) (broken _ (typed q) _ (w q) (types_off d q _ (sym c.has_types.ensures ∙ c.if-not-has_types.true) c.place.ensures)))
 
 pub returns-in-Some-clause-reads : goal.returns-in-Some-clause-reads
 returns-in-Some-clause-reads g c k w =
-    let q = g.B.Build.means c.in_ok-found.found in
+    let q = g.B.Make.means c.in_ok-found.found in
     let d = c.args.dialect.now in
     halts (answers ((c.in_ok-found.ensures.reads d (spot k)).comes _ refl) (broken _ (typed q) _ (w q) (types_on d q _ (sym c.has_types.ensures ∙ c.if-not-has_types.false) (sym (ap maybe_finding c.in-Some.is) ∙ c.in_ok-fault.ensures))))
 
@@ -30,7 +30,7 @@ returns-clause-reads g c k w = gives (seen_as ((c.in_ok-found.ensures.reads c.ar
 
 pub returns-clause-right : goal.returns-clause-right
 returns-clause-right g c =
-    let q = g.B.Build.means c.in_ok-found.found in
+    let q = g.B.Make.means c.in_ok-found.found in
     let d = c.args.dialect.now in
     let none = types_on d q None (sym c.has_types.ensures ∙ c.if-not-has_types.false) (sym (ap maybe_finding c.in_default.is) ∙ c.in_ok-fault.ensures) in
     is_type d q _ c.in_ok-type_of.ensures none

@@ -3,12 +3,11 @@
 ghost use Rattle.std.specs.Prelude.{◌≡◌, IfOk, string_bytes};
 ghost use Rattle.starlark_ast.specs.Tree as tree;
 ghost use Rattle.starlark_ast.specs.View.{comma_at, expr_at, ident_at, stmt_at};
-ghost use Rattle.starlark_parser.specs.Made.{sign_of};
-ghost use Rattle.starlark_parser.specs.Nodes.{type_at};
-ghost use Rattle.starlark_parser.specs.Trees.{boxed_type_at};
+ghost use Rattle.starlark_make.specs.Made.{sign_of};
+ghost use Rattle.starlark_make.specs.Kept.{boxed_type_at};
 
 use crate::boxes::boxed;
-use crate::build::Sign;
+use crate::make::Sign;
 use starlark_ast::ast::{
     AssignIdentP, AstAssignIdent, AstExpr, AstStmt, AstTypeExpr, Comma, ExprP, TypeExprP,
 };
@@ -42,9 +41,9 @@ pub(crate) fn signed(sign: Sign, operand: Box<AstExpr>, span: Span) -> AstExpr
     Spanned { span, node }
 }
 
-/// The expression as a type.
-pub(crate) fn annotated(alloc: Global, x: AstExpr) -> Result<Box<AstTypeExpr>, AllocError>
-    ensures { IfOk result (λ t. boxed_type_at t ≡ type_at (expr_at x)) }
+/// The expression as a type, at the same place. An Err is want of memory; the expression is let go then.
+pub fn annotated(alloc: Global, x: AstExpr) -> Result<Box<AstTypeExpr>, AllocError>
+    ensures { IfOk result (λ t. boxed_type_at t ≡ tree.typed (expr_at x) (tree.place (expr_at x))) }
 {
     let span = x.span;
     let node = TypeExprP {

@@ -3,8 +3,8 @@ use Rattle.std.specs.Prelude.{List, fold, Option, Some, None}
 use Rattle.starlark_place.specs.Place.{Extent}
 use Rattle.starlark_ast.specs.Tree as tree
 use Rattle.starlark_ast.specs.View.{members}
-use Rattle.starlark_parser.specs.declared.build.Sign.{Sign}
-use Rattle.starlark_parser.specs.declared.build.Sign.TheVariants as sign
+use Rattle.starlark_make.specs.declared.make.Sign.{Sign}
+use Rattle.starlark_make.specs.declared.make.Sign.TheVariants as sign
 
 module _ {X : Type 0} where
   -- members of a tuple, a list or an f-string

@@ -1,5 +1,5 @@
-use Rattle.starlark_parser.proofs.Making.{dict_comprehension_of}
-use Rattle.starlark_parser.proofs.trees.TreesBuild.dict_comprehension.Goals as goal
+use Rattle.starlark_make.proofs.Making.{dict_comprehension_of}
+use Rattle.starlark_make.proofs.trees.TreesMake.dict_comprehension.Goals as goal
 
 pub returns : goal.returns
 returns c =

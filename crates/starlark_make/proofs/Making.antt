@@ -25,8 +25,8 @@ use Rattle.starlark_ast.specs.declared.ast.ParameterP.{ParameterP}
 use Rattle.starlark_ast.specs.declared.ast.StmtP.{StmtP}
 use Rattle.starlark_ast.specs.declared.ast.StmtP.TheVariants as stmt
 use Rattle.starlark_ast.specs.declared.ast.TypeExprP.{TypeExprP}
-use Rattle.starlark_parser.specs.Made.{annotation_of}
-use Rattle.starlark_parser.specs.Trees.{boxed_type_at}
+use Rattle.starlark_make.specs.Made.{annotation_of}
+use Rattle.starlark_make.specs.Kept.{boxed_type_at}
 
 module _ {P L I A D T : Type 0} where
   pub call_of : (x : Box (Spanned (ExprP P L I A D T)) Global) (args : CallArgsP P L I A D T) (s : Extent) (y : Spanned (ExprP P L I A D T)) (zs : Vec (Spanned (ArgumentP P L I A D T)) Global) → x.value ≡ y → args.args ≡ zs → expr_view (expr.Call x args) s ≡ tree.call (expr_at y) (members argument_at zs.items) s
