@@ -5,3 +5,4 @@ mod boxes;
 mod names;
 pub mod nodes;
 pub mod payload_map;
+mod trees;

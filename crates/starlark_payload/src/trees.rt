@@ -1,0 +1,772 @@
+//! The nodes of the trees of `starlark_ast`.
+
+ghost use Rattle.std.specs.Prelude.{◌≡◌, ◌++◌, ◌+◌, suc, [], ◌∷◌, IfOk, flat_map, map, string_bytes};
+ghost use Rattle.std.specs.Option.{option_map};
+ghost use Rattle.starlark_ast.specs.Tree as tree;
+ghost use Rattle.starlark_ast.specs.View.{argument_view, assigned_view, clause_view, expr_view, for_clause_view, ident_view, literal_view, members, parameter_of, parameter_view, target_view, type_view};
+ghost use Rattle.starlark_payload.specs.Around.{annotation_of, argument_of, both_at, both_view, bound_of, clauses_of, many_view, marker_of, one_view, same_member, stars_of, three_view, two_view};
+ghost use Rattle.starlark_payload.specs.Payloads.{OfDef, OfType, all_of, argument_payloads, assigned_payloads, both_of, clause_payloads, expr_payloads, for_clause_payloads, ident_payloads, maybe_of, parameter_payloads, target_payloads, type_payloads};
+ghost use Rattle.starlark_payload.specs.Weights.{argument_weight, both_weight, clause_shape, clause_weight, expr_shape, expr_weight, for_clause_weight, maybe_weight, node_weight, parameter_shape, parameter_weight, target_shape, target_weight, total, type_weight, unboxed};
+ghost use Rattle.starlark_payload.specs.declared.nodes.Shape.TheVariants as shape;
+ghost use Rattle.starlark_payload.specs.declared.nodes.TargetShape.TheVariants as target;
+ghost use Rattle.starlark_payload.specs.declared.nodes.ParameterShape.TheVariants as parameter;
+ghost use Rattle.starlark_payload.specs.declared.nodes.ClauseShape.TheVariants as clause;
+
+use crate::boxes::{
+    boxed, boxed_both, boxed_first, boxed_with_three, maybe_boxed_both, maybe_boxed_first,
+    maybe_opened, opened,
+};
+use crate::nodes::{
+    AroundArgument, AroundMany, AroundOne, AroundThree, AroundTwo, ClauseShape, Makes, Marker,
+    Nodes, Opens, ParameterShape, Shape, Starred, TargetShape,
+};
+use starlark_ast::ast::{
+    ArgumentP, AssignTargetP, AstArgumentP, AstAssignIdentP, AstAssignTargetP, AstExprP, AstIdentP,
+    AstLiteral, AstParameterP, AstPayload, AstString, AstTypeExprP, CallArgsP, ClauseP, ExprP,
+    FStringP, ForClauseP, LambdaP, ParameterP, TypeExprP,
+};
+use starlark_place::pos::Spanned;
+use std::alloc::{AllocError, Global};
+
+/// Trees.
+pub(crate) struct Trees;
+
+impl<P: AstPayload> Nodes<P> for Trees {
+    ghost use Rattle.starlark_ast.specs.View.{argument_view, clause_view, expr_view, for_clause_view, parameter_view, target_view, type_view};
+    ghost use Rattle.starlark_payload.specs.Payloads.{argument_payloads, clause_payloads, expr_payloads, for_clause_payloads, parameter_payloads, target_payloads, type_payloads};
+    ghost use Rattle.starlark_payload.specs.Weights.{argument_weight, clause_shape, clause_weight, expr_shape, expr_weight, for_clause_weight, parameter_shape, parameter_weight, target_shape, target_weight, type_weight};
+
+    type Expr = ExprP<P>;
+
+    ghost shape_of = { expr_shape };
+
+    ghost weight = { expr_weight };
+
+    ghost view = { expr_view };
+
+    ghost payloads = { expr_payloads };
+
+    fn shape(x: &ExprP<P>) -> Shape {
+        match x {
+            ExprP::Tuple(_) => Shape::Many,
+            ExprP::Dot(_, _) => Shape::One,
+            ExprP::Call(_, _) => Shape::Call,
+            ExprP::Index(_) => Shape::Two,
+            ExprP::Index2(_) => Shape::Three,
+            ExprP::Slice(_, _, _, _) => Shape::Slice,
+            ExprP::Identifier(_) => Shape::Name,
+            ExprP::Lambda(_) => Shape::Lambda,
+            ExprP::Literal(_) => Shape::Literal,
+            ExprP::Not(_) => Shape::One,
+            ExprP::Minus(_) => Shape::One,
+            ExprP::Plus(_) => Shape::One,
+            ExprP::BitNot(_) => Shape::One,
+            ExprP::Op(_, _, _) => Shape::Two,
+            ExprP::If(_) => Shape::Three,
+            ExprP::List(_) => Shape::Many,
+            ExprP::Dict(_) => Shape::Dict,
+            ExprP::ListComprehension(_, _, _) => Shape::ListComprehension,
+            ExprP::DictComprehension(_, _, _) => Shape::DictComprehension,
+            ExprP::FString(_) => Shape::Many,
+        }
+    }
+
+    type Argument = ArgumentP<P>;
+
+    ghost argument_weight = { argument_weight };
+
+    ghost argument_view = { argument_view };
+
+    ghost argument_payloads = { argument_payloads };
+
+    type Type = TypeExprP<P>;
+
+    ghost type_weight = { type_weight };
+
+    ghost type_view = { type_view };
+
+    ghost type_payloads = { type_payloads };
+
+    type Parameter = ParameterP<P>;
+
+    ghost parameter_shape_of = { parameter_shape };
+
+    ghost parameter_weight = { parameter_weight };
+
+    ghost parameter_view = { parameter_view };
+
+    ghost parameter_payloads = { parameter_payloads };
+
+    fn parameter_shape(x: &ParameterP<P>) -> ParameterShape {
+        match x {
+            ParameterP::Slash => ParameterShape::Marker,
+            ParameterP::Normal(_, _, _) => ParameterShape::Normal,
+            ParameterP::NoArgs => ParameterShape::Marker,
+            ParameterP::Args(_, _) => ParameterShape::Starred,
+            ParameterP::KwArgs(_, _) => ParameterShape::Starred,
+        }
+    }
+
+    type Target = AssignTargetP<P>;
+
+    ghost target_shape_of = { target_shape };
+
+    ghost target_weight = { target_weight };
+
+    ghost target_view = { target_view };
+
+    ghost target_payloads = { target_payloads };
+
+    fn target_shape(x: &AssignTargetP<P>) -> TargetShape {
+        match x {
+            AssignTargetP::Tuple(_) => TargetShape::Tuple,
+            AssignTargetP::Index(_) => TargetShape::Index,
+            AssignTargetP::Dot(_, _) => TargetShape::Dot,
+            AssignTargetP::Identifier(_) => TargetShape::Name,
+        }
+    }
+
+    type ForClause = ForClauseP<P>;
+
+    ghost for_weight = { for_clause_weight };
+
+    ghost for_view = { for_clause_view };
+
+    ghost for_payloads = { for_clause_payloads };
+
+    type Clause = ClauseP<P>;
+
+    ghost clause_shape_of = { clause_shape };
+
+    ghost clause_weight = { clause_weight };
+
+    ghost clause_view = { clause_view };
+
+    ghost clause_payloads = { clause_payloads };
+
+    fn clause_shape(x: &ClauseP<P>) -> ClauseShape {
+        match x {
+            ClauseP::For(_) => ClauseShape::For,
+            ClauseP::If(_) => ClauseShape::If,
+        }
+    }
+}
+
+impl<P: AstPayload> Opens<P> for Trees {
+    fn open_literal(x: ExprP<P>) -> AstLiteral
+        requires { expr_shape x ≡ shape.Literal }
+        ensures kept { expr_view x ≡ literal_view result }
+        ensures payloads { expr_payloads x ≡ [] }
+    {
+        let ExprP::Literal(x) = x else { unreachable!() };
+        x
+    }
+
+    fn open_name(x: ExprP<P>) -> AstIdentP<P>
+        requires { expr_shape x ≡ shape.Name }
+        ensures kept { expr_view x ≡ ident_view result }
+        ensures payloads { expr_payloads x ≡ ident_payloads result.node }
+    {
+        let ExprP::Identifier(x) = x else {
+            unreachable!()
+        };
+        x
+    }
+
+    fn open_one(x: ExprP<P>) -> (AroundOne, AstExprP<P>)
+        requires { expr_shape x ≡ shape.One }
+        ensures kept { expr_view x ≡ one_view result.0 (expr_view result.1.node result.1.span) }
+        ensures payloads { expr_payloads x ≡ expr_payloads result.1.node }
+        ensures weight { expr_weight x ≡ suc (expr_weight result.1.node) }
+    {
+        match x {
+            ExprP::Dot(x, name) => (AroundOne::Dot(name), opened(x)),
+            ExprP::Not(x) => (AroundOne::Not, opened(x)),
+            ExprP::Minus(x) => (AroundOne::Minus, opened(x)),
+            ExprP::Plus(x) => (AroundOne::Plus, opened(x)),
+            ExprP::BitNot(x) => (AroundOne::BitNot, opened(x)),
+            _ => unreachable!(),
+        }
+    }
+
+    fn open_two(x: ExprP<P>) -> (AroundTwo, AstExprP<P>, AstExprP<P>)
+        requires { expr_shape x ≡ shape.Two }
+        ensures kept { expr_view x ≡ two_view result.0 (expr_view result.1.node result.1.span) (expr_view result.2.node result.2.span) }
+        ensures payloads { expr_payloads x ≡ expr_payloads result.1.node ++ expr_payloads result.2.node }
+        ensures weight { expr_weight x ≡ suc (expr_weight result.1.node + expr_weight result.2.node) }
+    {
+        match x {
+            ExprP::Index(pair) => {
+                let (x, y) = opened(pair);
+                (AroundTwo::Index, x, y)
+            }
+            ExprP::Op(x, op, y) => (AroundTwo::Op(op), opened(x), opened(y)),
+            _ => unreachable!(),
+        }
+    }
+
+    fn open_three(x: ExprP<P>) -> (AroundThree, AstExprP<P>, AstExprP<P>, AstExprP<P>)
+        requires { expr_shape x ≡ shape.Three }
+        ensures kept { expr_view x ≡ three_view result.0 (expr_view result.1.node result.1.span) (expr_view result.2.node result.2.span) (expr_view result.3.node result.3.span) }
+        ensures payloads { expr_payloads x ≡ expr_payloads result.1.node ++ (expr_payloads result.2.node ++ expr_payloads result.3.node) }
+        ensures weight { expr_weight x ≡ suc (expr_weight result.1.node + (expr_weight result.2.node + expr_weight result.3.node)) }
+    {
+        match x {
+            ExprP::Index2(all) => {
+                let (x, y, z) = opened(all);
+                (AroundThree::Index2, x, y, z)
+            }
+            ExprP::If(all) => {
+                let (x, y, z) = opened(all);
+                (AroundThree::If, x, y, z)
+            }
+            _ => unreachable!(),
+        }
+    }
+
+    fn open_slice(
+        x: ExprP<P>,
+    ) -> (
+        AstExprP<P>,
+        Option<AstExprP<P>>,
+        Option<AstExprP<P>>,
+        Option<AstExprP<P>>,
+    )
+        requires { expr_shape x ≡ shape.Slice }
+        ensures kept { expr_view x ≡ tree.index (expr_view result.0.node result.0.span) (tree.slice (bound_of (option_map (λ y. expr_view y.node y.span) result.1)) (bound_of (option_map (λ y. expr_view y.node y.span) result.2)) (bound_of (option_map (λ y. expr_view y.node y.span) result.3))) }
+        ensures payloads { expr_payloads x ≡ expr_payloads result.0.node ++ (maybe_of expr_payloads result.1 ++ (maybe_of expr_payloads result.2 ++ maybe_of expr_payloads result.3)) }
+        ensures weight { expr_weight x ≡ suc (expr_weight result.0.node + (maybe_weight expr_weight result.1 + (maybe_weight expr_weight result.2 + maybe_weight expr_weight result.3))) }
+    {
+        let ExprP::Slice(x, a, b, c) = x else {
+            unreachable!()
+        };
+        (opened(x), maybe_opened(a), maybe_opened(b), maybe_opened(c))
+    }
+
+    fn open_many(x: ExprP<P>) -> (AroundMany, Vec<AstExprP<P>>)
+        requires { expr_shape x ≡ shape.Many }
+        ensures kept { expr_view x ≡ many_view result.0 (map (λ y. expr_view y.node y.span) result.1.items) }
+        ensures payloads { expr_payloads x ≡ all_of expr_payloads result.1.items }
+        ensures weight { expr_weight x ≡ suc (total (node_weight expr_weight) result.1.items) }
+    {
+        match x {
+            ExprP::Tuple(xs) => (AroundMany::Tuple, xs),
+            ExprP::List(xs) => (AroundMany::List, xs),
+            ExprP::FString(x) => {
+                let Spanned { span, node } = x;
+                let FStringP {
+                    format,
+                    expressions,
+                } = node;
+                (AroundMany::FString(span, format), expressions)
+            }
+            _ => unreachable!(),
+        }
+    }
+
+    fn open_dict(x: ExprP<P>) -> Vec<(AstExprP<P>, AstExprP<P>)>
+        requires { expr_shape x ≡ shape.Dict }
+        ensures kept { expr_view x ≡ tree.dict (members both_view (map (both_at expr_view) result.items)) }
+        ensures payloads { expr_payloads x ≡ flat_map (both_of expr_payloads) result.items }
+        ensures weight { expr_weight x ≡ suc (total (both_weight expr_weight) result.items) }
+    {
+        let ExprP::Dict(xs) = x else { unreachable!() };
+        xs
+    }
+
+    fn open_argument(x: ArgumentP<P>) -> (AroundArgument, AstExprP<P>)
+        ensures kept { argument_view x ≡ argument_of result.0 (expr_view result.1.node result.1.span) }
+        ensures payloads { argument_payloads x ≡ expr_payloads result.1.node }
+        ensures weight { argument_weight x ≡ suc (expr_weight result.1.node) }
+    {
+        match x {
+            ArgumentP::Positional(x) => (AroundArgument::Positional, x),
+            ArgumentP::Named(name, x) => (AroundArgument::Named(name), x),
+            ArgumentP::Args(x) => (AroundArgument::Args, x),
+            ArgumentP::KwArgs(x) => (AroundArgument::KwArgs, x),
+        }
+    }
+
+    fn open_call(x: ExprP<P>) -> (AstExprP<P>, Vec<AstArgumentP<P>>)
+        requires { expr_shape x ≡ shape.Call }
+        ensures kept { expr_view x ≡ tree.call (expr_view result.0.node result.0.span) (members same_member (map (λ y. argument_view y.node y.span) result.1.items)) }
+        ensures payloads { expr_payloads x ≡ expr_payloads result.0.node ++ all_of argument_payloads result.1.items }
+        ensures weight { expr_weight x ≡ suc (expr_weight result.0.node + total (node_weight argument_weight) result.1.items) }
+    {
+        let ExprP::Call(x, args) = x else {
+            unreachable!()
+        };
+        let CallArgsP { args } = args;
+        (opened(x), args)
+    }
+
+    fn open_type_expr(x: TypeExprP<P>) -> (AstExprP<P>, P::TypeExprPayload)
+        ensures kept { type_view x ≡ tree.typed (expr_view result.0.node result.0.span) }
+        ensures payloads { type_payloads x ≡ expr_payloads result.0.node ++ OfType result.1 ∷ [] }
+        ensures weight { type_weight x ≡ suc (expr_weight result.0.node) }
+    {
+        let TypeExprP { expr, payload } = x;
+        (expr, payload)
+    }
+
+    fn open_marker(x: ParameterP<P>) -> Marker
+        requires { parameter_shape x ≡ parameter.Marker }
+        ensures kept { parameter_view x ≡ marker_of result }
+        ensures payloads { parameter_payloads x ≡ [] }
+    {
+        match x {
+            ParameterP::Slash => Marker::Slash,
+            ParameterP::NoArgs => Marker::NoArgs,
+            _ => unreachable!(),
+        }
+    }
+
+    fn open_normal(
+        x: ParameterP<P>,
+    ) -> (
+        AstAssignIdentP<P>,
+        Option<AstTypeExprP<P>>,
+        Option<AstExprP<P>>,
+    )
+        requires { parameter_shape x ≡ parameter.Normal }
+        ensures kept { parameter_view x ≡ parameter_of tree.plain result.0 (annotation_of (option_map (λ y. type_view y.node y.span) result.1)) (bound_of (option_map (λ y. expr_view y.node y.span) result.2)) }
+        ensures payloads { parameter_payloads x ≡ assigned_payloads result.0.node ++ (maybe_of type_payloads result.1 ++ maybe_of expr_payloads result.2) }
+        ensures weight { parameter_weight x ≡ suc (maybe_weight type_weight result.1 + maybe_weight expr_weight result.2) }
+    {
+        let ParameterP::Normal(name, ty, default) = x else {
+            unreachable!()
+        };
+        (name, maybe_opened(ty), maybe_opened(default))
+    }
+
+    fn open_starred(x: ParameterP<P>) -> (Starred, AstAssignIdentP<P>, Option<AstTypeExprP<P>>)
+        requires { parameter_shape x ≡ parameter.Starred }
+        ensures kept { parameter_view x ≡ parameter_of (stars_of result.0) result.1 (annotation_of (option_map (λ y. type_view y.node y.span) result.2)) tree.absent }
+        ensures payloads { parameter_payloads x ≡ assigned_payloads result.1.node ++ maybe_of type_payloads result.2 }
+        ensures weight { parameter_weight x ≡ suc (maybe_weight type_weight result.2) }
+    {
+        match x {
+            ParameterP::Args(name, ty) => (Starred::Args, name, maybe_opened(ty)),
+            ParameterP::KwArgs(name, ty) => (Starred::KwArgs, name, maybe_opened(ty)),
+            _ => unreachable!(),
+        }
+    }
+
+    fn open_lambda(x: ExprP<P>) -> (Vec<AstParameterP<P>>, AstExprP<P>, P::DefPayload)
+        requires { expr_shape x ≡ shape.Lambda }
+        ensures kept { expr_view x ≡ tree.lambda (members same_member (map (λ y. parameter_view y.node y.span) result.0.items)) (expr_view result.1.node result.1.span) }
+        ensures payloads { expr_payloads x ≡ all_of parameter_payloads result.0.items ++ (expr_payloads result.1.node ++ OfDef result.2 ∷ []) }
+        ensures weight { expr_weight x ≡ suc (total (node_weight parameter_weight) result.0.items + expr_weight result.1.node) }
+    {
+        let ExprP::Lambda(x) = x else { unreachable!() };
+        let LambdaP {
+            params,
+            body,
+            payload,
+        } = x;
+        (params, opened(body), payload)
+    }
+
+    fn open_target_tuple(x: AssignTargetP<P>) -> Vec<AstAssignTargetP<P>>
+        requires { target_shape x ≡ target.Tuple }
+        ensures kept { target_view x ≡ tree.tuple (members tree.item (map (λ y. target_view y.node y.span) result.items)) }
+        ensures payloads { target_payloads x ≡ all_of target_payloads result.items }
+        ensures weight { target_weight x ≡ suc (total (node_weight target_weight) result.items) }
+    {
+        let AssignTargetP::Tuple(xs) = x else {
+            unreachable!()
+        };
+        xs
+    }
+
+    fn open_target_index(x: AssignTargetP<P>) -> (AstExprP<P>, AstExprP<P>)
+        requires { target_shape x ≡ target.Index }
+        ensures kept { target_view x ≡ tree.index (expr_view result.0.node result.0.span) (tree.single (expr_view result.1.node result.1.span)) }
+        ensures payloads { target_payloads x ≡ expr_payloads result.0.node ++ expr_payloads result.1.node }
+        ensures weight { target_weight x ≡ suc (expr_weight result.0.node + expr_weight result.1.node) }
+    {
+        let AssignTargetP::Index(pair) = x else {
+            unreachable!()
+        };
+        opened(pair)
+    }
+
+    fn open_target_dot(x: AssignTargetP<P>) -> (AstExprP<P>, AstString)
+        requires { target_shape x ≡ target.Dot }
+        ensures kept { target_view x ≡ tree.dot (expr_view result.0.node result.0.span) (string_bytes result.1.node) result.1.span }
+        ensures payloads { target_payloads x ≡ expr_payloads result.0.node }
+        ensures weight { target_weight x ≡ suc (expr_weight result.0.node) }
+    {
+        let AssignTargetP::Dot(x, name) = x else {
+            unreachable!()
+        };
+        (opened(x), name)
+    }
+
+    fn open_target_name(x: AssignTargetP<P>) -> AstAssignIdentP<P>
+        requires { target_shape x ≡ target.Name }
+        ensures kept { target_view x ≡ assigned_view result }
+        ensures payloads { target_payloads x ≡ assigned_payloads result.node }
+    {
+        let AssignTargetP::Identifier(name) = x else {
+            unreachable!()
+        };
+        name
+    }
+
+    fn open_for_clause(x: ForClauseP<P>) -> (AstAssignTargetP<P>, AstExprP<P>)
+        ensures kept { for_clause_view x ≡ tree.for_clause (target_view result.0.node result.0.span) (expr_view result.1.node result.1.span) }
+        ensures payloads { for_clause_payloads x ≡ target_payloads result.0.node ++ expr_payloads result.1.node }
+        ensures weight { for_clause_weight x ≡ suc (target_weight result.0.node + expr_weight result.1.node) }
+    {
+        let ForClauseP { var, over } = x;
+        (var, over)
+    }
+
+    fn open_next_for(x: ClauseP<P>) -> ForClauseP<P>
+        requires { clause_shape x ≡ clause.For }
+        ensures kept { clause_view x ≡ for_clause_view result }
+        ensures payloads { clause_payloads x ≡ for_clause_payloads result }
+        ensures weight { clause_weight x ≡ suc (for_clause_weight result) }
+    {
+        let ClauseP::For(x) = x else { unreachable!() };
+        x
+    }
+
+    fn open_filter(x: ClauseP<P>) -> AstExprP<P>
+        requires { clause_shape x ≡ clause.If }
+        ensures kept { clause_view x ≡ tree.if_clause (expr_view result.node result.span) }
+        ensures payloads { clause_payloads x ≡ expr_payloads result.node }
+        ensures weight { clause_weight x ≡ suc (expr_weight result.node) }
+    {
+        let ClauseP::If(x) = x else { unreachable!() };
+        x
+    }
+
+    fn open_list_comprehension(x: ExprP<P>) -> (AstExprP<P>, ForClauseP<P>, Vec<ClauseP<P>>)
+        requires { expr_shape x ≡ shape.ListComprehension }
+        ensures kept { expr_view x ≡ tree.comprehension (tree.item (expr_view result.0.node result.0.span)) (clauses_of (for_clause_view result.1) (map clause_view result.2.items)) }
+        ensures payloads { expr_payloads x ≡ expr_payloads result.0.node ++ (for_clause_payloads result.1 ++ flat_map clause_payloads result.2.items) }
+        ensures weight { expr_weight x ≡ suc (expr_weight result.0.node + (for_clause_weight result.1 + total clause_weight result.2.items)) }
+    {
+        let ExprP::ListComprehension(x, first, rest) = x else {
+            unreachable!()
+        };
+        (opened(x), opened(first), rest)
+    }
+
+    fn open_dict_comprehension(
+        x: ExprP<P>,
+    ) -> ((AstExprP<P>, AstExprP<P>), ForClauseP<P>, Vec<ClauseP<P>>)
+        requires { expr_shape x ≡ shape.DictComprehension }
+        ensures kept { expr_view x ≡ tree.comprehension (tree.pair (expr_view result.0.0.node result.0.0.span) (expr_view result.0.1.node result.0.1.span)) (clauses_of (for_clause_view result.1) (map clause_view result.2.items)) }
+        ensures payloads { expr_payloads x ≡ both_of expr_payloads result.0 ++ (for_clause_payloads result.1 ++ flat_map clause_payloads result.2.items) }
+        ensures weight { expr_weight x ≡ suc (both_weight expr_weight result.0 + (for_clause_weight result.1 + total clause_weight result.2.items)) }
+    {
+        let ExprP::DictComprehension(x, first, rest) = x else {
+            unreachable!()
+        };
+        (opened(x), opened(first), rest)
+    }
+}
+
+impl<P: AstPayload> Makes<P> for Trees {
+    fn literal(x: AstLiteral) -> ExprP<P>
+        ensures kept { expr_view result ≡ literal_view x }
+        ensures payloads { expr_payloads result ≡ [] }
+    {
+        ExprP::Literal(x)
+    }
+
+    fn name(x: AstIdentP<P>) -> ExprP<P>
+        ensures kept { expr_view result ≡ ident_view x }
+        ensures payloads { expr_payloads result ≡ ident_payloads x.node }
+    {
+        ExprP::Identifier(x)
+    }
+
+    fn one(alloc: Global, around: AroundOne, x: AstExprP<P>) -> Result<ExprP<P>, AllocError>
+        ensures kept { IfOk result (λ it. expr_view it ≡ one_view around (expr_view x.node x.span)) }
+        ensures payloads { IfOk result (λ it. expr_payloads it ≡ expr_payloads x.node) }
+    {
+        let (x, around) = boxed_first(alloc, x, around)?;
+        Ok(with_one(around, x))
+    }
+
+    fn two(
+        alloc: Global,
+        around: AroundTwo,
+        x: AstExprP<P>,
+        y: AstExprP<P>,
+    ) -> Result<ExprP<P>, AllocError>
+        ensures kept { IfOk result (λ it. expr_view it ≡ two_view around (expr_view x.node x.span) (expr_view y.node y.span)) }
+        ensures payloads { IfOk result (λ it. expr_payloads it ≡ expr_payloads x.node ++ expr_payloads y.node) }
+    {
+        match around {
+            AroundTwo::Index => Ok(ExprP::Index(boxed(alloc, (x, y))?)),
+            AroundTwo::Op(op) => {
+                let (x, y, op) = boxed_both(alloc, x, y, op)?;
+                Ok(ExprP::Op(x, op, y))
+            }
+        }
+    }
+
+    fn three(
+        alloc: Global,
+        around: AroundThree,
+        x: AstExprP<P>,
+        y: AstExprP<P>,
+        z: AstExprP<P>,
+    ) -> Result<ExprP<P>, AllocError>
+        ensures kept { IfOk result (λ it. expr_view it ≡ three_view around (expr_view x.node x.span) (expr_view y.node y.span) (expr_view z.node z.span)) }
+        ensures payloads { IfOk result (λ it. expr_payloads it ≡ expr_payloads x.node ++ (expr_payloads y.node ++ expr_payloads z.node)) }
+    {
+        let (all, around) = boxed_first(alloc, (x, y, z), around)?;
+        Ok(with_three(around, all))
+    }
+
+    fn slice(
+        alloc: Global,
+        x: AstExprP<P>,
+        a: Option<AstExprP<P>>,
+        b: Option<AstExprP<P>>,
+        c: Option<AstExprP<P>>,
+    ) -> Result<ExprP<P>, AllocError>
+        ensures kept { IfOk result (λ it. expr_view it ≡ tree.index (expr_view x.node x.span) (tree.slice (bound_of (option_map (λ y. expr_view y.node y.span) a)) (bound_of (option_map (λ y. expr_view y.node y.span) b)) (bound_of (option_map (λ y. expr_view y.node y.span) c)))) }
+        ensures payloads { IfOk result (λ it. expr_payloads it ≡ expr_payloads x.node ++ (maybe_of expr_payloads a ++ (maybe_of expr_payloads b ++ maybe_of expr_payloads c))) }
+    {
+        let (x, a, b, c) = boxed_with_three(alloc, x, a, b, c)?;
+        Ok(ExprP::Slice(x, a, b, c))
+    }
+
+    fn many(around: AroundMany, xs: Vec<AstExprP<P>>) -> ExprP<P>
+        ensures kept { expr_view result ≡ many_view around (map (λ y. expr_view y.node y.span) xs.items) }
+        ensures payloads { expr_payloads result ≡ all_of expr_payloads xs.items }
+    {
+        match around {
+            AroundMany::Tuple => ExprP::Tuple(xs),
+            AroundMany::List => ExprP::List(xs),
+            AroundMany::FString(span, format) => {
+                let node = FStringP {
+                    format,
+                    expressions: xs,
+                };
+                ExprP::FString(Spanned { span, node })
+            }
+        }
+    }
+
+    fn dict(xs: Vec<(AstExprP<P>, AstExprP<P>)>) -> ExprP<P>
+        ensures kept { expr_view result ≡ tree.dict (members both_view (map (both_at expr_view) xs.items)) }
+        ensures payloads { expr_payloads result ≡ flat_map (both_of expr_payloads) xs.items }
+    {
+        ExprP::Dict(xs)
+    }
+
+    fn argument(around: AroundArgument, x: AstExprP<P>) -> ArgumentP<P>
+        ensures kept { argument_view result ≡ argument_of around (expr_view x.node x.span) }
+        ensures payloads { argument_payloads result ≡ expr_payloads x.node }
+    {
+        match around {
+            AroundArgument::Positional => ArgumentP::Positional(x),
+            AroundArgument::Named(name) => ArgumentP::Named(name, x),
+            AroundArgument::Args => ArgumentP::Args(x),
+            AroundArgument::KwArgs => ArgumentP::KwArgs(x),
+        }
+    }
+
+    fn call(alloc: Global, x: AstExprP<P>, xs: Vec<AstArgumentP<P>>) -> Result<ExprP<P>, AllocError>
+        ensures kept { IfOk result (λ it. expr_view it ≡ tree.call (expr_view x.node x.span) (members same_member (map (λ y. argument_view y.node y.span) xs.items))) }
+        ensures payloads { IfOk result (λ it. expr_payloads it ≡ expr_payloads x.node ++ all_of argument_payloads xs.items) }
+    {
+        let (x, args) = boxed_first(alloc, x, xs)?;
+        Ok(ExprP::Call(x, CallArgsP { args }))
+    }
+
+    fn type_expr(x: AstExprP<P>, payload: P::TypeExprPayload) -> TypeExprP<P>
+        ensures kept { type_view result ≡ tree.typed (expr_view x.node x.span) }
+        ensures payloads { type_payloads result ≡ expr_payloads x.node ++ OfType payload ∷ [] }
+    {
+        TypeExprP { expr: x, payload }
+    }
+
+    fn marker(x: Marker) -> ParameterP<P>
+        ensures kept { parameter_view result ≡ marker_of x }
+        ensures payloads { parameter_payloads result ≡ [] }
+    {
+        match x {
+            Marker::Slash => ParameterP::Slash,
+            Marker::NoArgs => ParameterP::NoArgs,
+        }
+    }
+
+    fn normal(
+        alloc: Global,
+        name: AstAssignIdentP<P>,
+        ty: Option<AstTypeExprP<P>>,
+        default: Option<AstExprP<P>>,
+    ) -> Result<ParameterP<P>, AllocError>
+        ensures kept { IfOk result (λ it. parameter_view it ≡ parameter_of tree.plain name (annotation_of (option_map (λ y. type_view y.node y.span) ty)) (bound_of (option_map (λ y. expr_view y.node y.span) default))) }
+        ensures payloads { IfOk result (λ it. parameter_payloads it ≡ assigned_payloads name.node ++ (maybe_of type_payloads ty ++ maybe_of expr_payloads default)) }
+    {
+        let (ty, default, name) = maybe_boxed_both(alloc, ty, default, name)?;
+        Ok(ParameterP::Normal(name, ty, default))
+    }
+
+    fn starred(
+        alloc: Global,
+        stars: Starred,
+        name: AstAssignIdentP<P>,
+        ty: Option<AstTypeExprP<P>>,
+    ) -> Result<ParameterP<P>, AllocError>
+        ensures kept { IfOk result (λ it. parameter_view it ≡ parameter_of (stars_of stars) name (annotation_of (option_map (λ y. type_view y.node y.span) ty)) tree.absent) }
+        ensures payloads { IfOk result (λ it. parameter_payloads it ≡ assigned_payloads name.node ++ maybe_of type_payloads ty) }
+    {
+        let (ty, (stars, name)) = maybe_boxed_first(alloc, ty, (stars, name))?;
+        Ok(with_stars(stars, name, ty))
+    }
+
+    fn lambda(
+        alloc: Global,
+        params: Vec<AstParameterP<P>>,
+        body: AstExprP<P>,
+        payload: P::DefPayload,
+    ) -> Result<ExprP<P>, AllocError>
+        ensures kept { IfOk result (λ it. expr_view it ≡ tree.lambda (members same_member (map (λ y. parameter_view y.node y.span) params.items)) (expr_view body.node body.span)) }
+        ensures payloads { IfOk result (λ it. expr_payloads it ≡ all_of parameter_payloads params.items ++ (expr_payloads body.node ++ OfDef payload ∷ [])) }
+    {
+        let (body, (params, payload)) = boxed_first(alloc, body, (params, payload))?;
+        Ok(ExprP::Lambda(LambdaP {
+            params,
+            body,
+            payload,
+        }))
+    }
+
+    fn target_tuple(xs: Vec<AstAssignTargetP<P>>) -> AssignTargetP<P>
+        ensures kept { target_view result ≡ tree.tuple (members tree.item (map (λ y. target_view y.node y.span) xs.items)) }
+        ensures payloads { target_payloads result ≡ all_of target_payloads xs.items }
+    {
+        AssignTargetP::Tuple(xs)
+    }
+
+    fn target_index(
+        alloc: Global,
+        x: AstExprP<P>,
+        y: AstExprP<P>,
+    ) -> Result<AssignTargetP<P>, AllocError>
+        ensures kept { IfOk result (λ it. target_view it ≡ tree.index (expr_view x.node x.span) (tree.single (expr_view y.node y.span))) }
+        ensures payloads { IfOk result (λ it. target_payloads it ≡ expr_payloads x.node ++ expr_payloads y.node) }
+    {
+        Ok(AssignTargetP::Index(boxed(alloc, (x, y))?))
+    }
+
+    fn target_dot(
+        alloc: Global,
+        x: AstExprP<P>,
+        name: AstString,
+    ) -> Result<AssignTargetP<P>, AllocError>
+        ensures kept { IfOk result (λ it. target_view it ≡ tree.dot (expr_view x.node x.span) (string_bytes name.node) name.span) }
+        ensures payloads { IfOk result (λ it. target_payloads it ≡ expr_payloads x.node) }
+    {
+        let (x, name) = boxed_first(alloc, x, name)?;
+        Ok(AssignTargetP::Dot(x, name))
+    }
+
+    fn target_name(x: AstAssignIdentP<P>) -> AssignTargetP<P>
+        ensures kept { target_view result ≡ assigned_view x }
+        ensures payloads { target_payloads result ≡ assigned_payloads x.node }
+    {
+        AssignTargetP::Identifier(x)
+    }
+
+    fn for_clause(var: AstAssignTargetP<P>, over: AstExprP<P>) -> ForClauseP<P>
+        ensures kept { for_clause_view result ≡ tree.for_clause (target_view var.node var.span) (expr_view over.node over.span) }
+        ensures payloads { for_clause_payloads result ≡ target_payloads var.node ++ expr_payloads over.node }
+    {
+        ForClauseP { var, over }
+    }
+
+    fn next_for(x: ForClauseP<P>) -> ClauseP<P>
+        ensures kept { clause_view result ≡ for_clause_view x }
+        ensures payloads { clause_payloads result ≡ for_clause_payloads x }
+    {
+        ClauseP::For(x)
+    }
+
+    fn filter(x: AstExprP<P>) -> ClauseP<P>
+        ensures kept { clause_view result ≡ tree.if_clause (expr_view x.node x.span) }
+        ensures payloads { clause_payloads result ≡ expr_payloads x.node }
+    {
+        ClauseP::If(x)
+    }
+
+    fn list_comprehension(
+        alloc: Global,
+        x: AstExprP<P>,
+        first: ForClauseP<P>,
+        rest: Vec<ClauseP<P>>,
+    ) -> Result<ExprP<P>, AllocError>
+        ensures kept { IfOk result (λ it. expr_view it ≡ tree.comprehension (tree.item (expr_view x.node x.span)) (clauses_of (for_clause_view first) (map clause_view rest.items))) }
+        ensures payloads { IfOk result (λ it. expr_payloads it ≡ expr_payloads x.node ++ (for_clause_payloads first ++ flat_map clause_payloads rest.items)) }
+    {
+        let (x, first, rest) = boxed_both(alloc, x, first, rest)?;
+        Ok(ExprP::ListComprehension(x, first, rest))
+    }
+
+    fn dict_comprehension(
+        alloc: Global,
+        x: (AstExprP<P>, AstExprP<P>),
+        first: ForClauseP<P>,
+        rest: Vec<ClauseP<P>>,
+    ) -> Result<ExprP<P>, AllocError>
+        ensures kept { IfOk result (λ it. expr_view it ≡ tree.comprehension (tree.pair (expr_view x.0.node x.0.span) (expr_view x.1.node x.1.span)) (clauses_of (for_clause_view first) (map clause_view rest.items))) }
+        ensures payloads { IfOk result (λ it. expr_payloads it ≡ both_of expr_payloads x ++ (for_clause_payloads first ++ flat_map clause_payloads rest.items)) }
+    {
+        let (x, first, rest) = boxed_both(alloc, x, first, rest)?;
+        Ok(ExprP::DictComprehension(x, first, rest))
+    }
+}
+
+/// One expression, and what stands around it.
+fn with_one<P: AstPayload>(around: AroundOne, x: Box<AstExprP<P>>) -> ExprP<P>
+    ensures kept { expr_view result ≡ one_view around (expr_view x.value.node x.value.span) }
+    ensures payloads { expr_payloads result ≡ expr_payloads x.value.node }
+{
+    match around {
+        AroundOne::Dot(name) => ExprP::Dot(x, name),
+        AroundOne::Not => ExprP::Not(x),
+        AroundOne::Minus => ExprP::Minus(x),
+        AroundOne::Plus => ExprP::Plus(x),
+        AroundOne::BitNot => ExprP::BitNot(x),
+    }
+}
+
+/// Three expressions, and what stands around them.
+fn with_three<P: AstPayload>(
+    around: AroundThree,
+    all: Box<(AstExprP<P>, AstExprP<P>, AstExprP<P>)>,
+) -> ExprP<P>
+    ensures kept { expr_view result ≡ three_view around (expr_view all.value.0.node all.value.0.span) (expr_view all.value.1.node all.value.1.span) (expr_view all.value.2.node all.value.2.span) }
+    ensures payloads { expr_payloads result ≡ expr_payloads all.value.0.node ++ (expr_payloads all.value.1.node ++ expr_payloads all.value.2.node) }
+{
+    match around {
+        AroundThree::Index2 => ExprP::Index2(all),
+        AroundThree::If => ExprP::If(all),
+    }
+}
+
+/// A parameter that takes all others.
+fn with_stars<P: AstPayload>(
+    stars: Starred,
+    name: AstAssignIdentP<P>,
+    ty: Option<Box<AstTypeExprP<P>>>,
+) -> ParameterP<P>
+    ensures kept { parameter_view result ≡ parameter_of (stars_of stars) name (annotation_of (option_map (λ y. type_view y.node y.span) (unboxed ty))) tree.absent }
+    ensures payloads { parameter_payloads result ≡ assigned_payloads name.node ++ maybe_of type_payloads (unboxed ty) }
+{
+    match stars {
+        Starred::Args => ParameterP::Args(name, ty),
+        Starred::KwArgs => ParameterP::KwArgs(name, ty),
+    }
+}
