@@ -2,7 +2,9 @@
 #![tactic(auto)]
 
 mod boxes;
+mod makers;
 mod names;
 pub mod nodes;
+mod openers;
 pub mod payload_map;
 mod trees;
