@@ -1,5 +1,5 @@
-//! Tests of the public calls on modules and on the trees that they hold, of what no stream of texts can tell: closures, clones,
-//! what calls lend. It has no code of its own, so the crates below are proved once.
+//! Tests of the public calls on modules, of what no stream of texts can tell: faults, comments, costs, clones, suppressions,
+//! operators made calls. It has no code of its own, so the crates below are proved once.
 #![tactic(auto)]
 
 #[cfg(test)]
@@ -12,7 +12,3 @@ mod parsing;
 mod replacing;
 #[cfg(test)]
 mod suppressions;
-#[cfg(test)]
-mod unpacking;
-#[cfg(test)]
-mod visiting;
