@@ -1,0 +1,7 @@
+//! Visitors that write to trees.
+#![tactic(auto)]
+
+mod expressions;
+mod members;
+mod targets;
+pub mod visit_mut;

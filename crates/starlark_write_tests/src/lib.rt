@@ -1,0 +1,5 @@
+//! Tests of visitors that write. It has no code of its own, so the crate of visitors is proved once.
+#![tactic(auto)]
+
+#[cfg(test)]
+mod writing;
