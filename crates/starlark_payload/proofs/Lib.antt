@@ -3,3 +3,4 @@ pub mod Listed
 pub mod Loops
 pub mod Naming
 pub mod Opening
+pub mod Parts

@@ -1,4 +1,5 @@
 pub mod Around
 pub mod Kept
+pub mod Mapped
 pub mod Payloads
 pub mod Weights

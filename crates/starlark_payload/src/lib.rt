@@ -3,6 +3,7 @@
 
 mod boxes;
 mod makers;
+mod mapping;
 mod names;
 pub mod nodes;
 mod openers;

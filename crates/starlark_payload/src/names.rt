@@ -1,8 +1,8 @@
 //! Names, at their places.
 
-ghost use Rattle.std.specs.Prelude.{◌≡◌, string_bytes};
-ghost use Rattle.starlark_ast.specs.View.{ident_view};
-ghost use Rattle.starlark_payload.specs.Payloads.{Answers, assigned_payloads, gives, ident_payloads};
+ghost use Rattle.starlark_ast.specs.View.{ident_at, ident_view};
+ghost use Rattle.starlark_payload.specs.Mapped.{Mapped};
+ghost use Rattle.starlark_payload.specs.Payloads.{assigned_payloads, gives, ident_payloads};
 
 use crate::payload_map::{AstPayloadFunction, assign_ident, ident};
 use starlark_ast::ast::{AstAssignIdentP, AstIdentP, AstPayload};
@@ -13,8 +13,7 @@ pub(crate) fn name<A: AstPayload, B: AstPayload, F: AstPayloadFunction<A, B>>(
     x: AstIdentP<A>,
     f: &mut F,
 ) -> AstIdentP<B>
-    ensures kept { ident_view result ≡ ident_view x }
-    ensures called { Answers (gives F.gives_load F.gives_ident F.gives_ident_assign F.gives_def F.gives_type_expr) f.old (ident_payloads x.node) f.new (ident_payloads result.node) }
+    ensures { Mapped (gives F.gives_load F.gives_ident F.gives_ident_assign F.gives_def F.gives_type_expr) f.old (ident_payloads x.node) (ident_view x) f.new (ident_payloads result.node) (ident_view result) }
 {
     let Spanned { span, node } = x;
     let node = ident(node, f);
@@ -26,9 +25,7 @@ pub(crate) fn assigned<A: AstPayload, B: AstPayload, F: AstPayloadFunction<A, B>
     x: AstAssignIdentP<A>,
     f: &mut F,
 ) -> AstAssignIdentP<B>
-    ensures kept { string_bytes result.node.ident ≡ string_bytes x.node.ident }
-    ensures placed { result.span ≡ x.span }
-    ensures called { Answers (gives F.gives_load F.gives_ident F.gives_ident_assign F.gives_def F.gives_type_expr) f.old (assigned_payloads x.node) f.new (assigned_payloads result.node) }
+    ensures { Mapped (gives F.gives_load F.gives_ident F.gives_ident_assign F.gives_def F.gives_type_expr) f.old (assigned_payloads x.node) (ident_at x) f.new (assigned_payloads result.node) (ident_at result) }
 {
     let Spanned { span, node } = x;
     let node = assign_ident(node, f);
