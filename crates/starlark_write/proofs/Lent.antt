@@ -2,11 +2,12 @@
 use Rattle.std.proofs.Common.{◌≡◌, refl, sym, ap, ◌∙◌, subst, ℕ}
 use mathlib.Core.Option.{Option, some, none}
 use borrow.Enum.Known.{ValuesAt, at}
-use borrow.Enum.Total.{values_o, values_o_at}
+use borrow.Enum.Total.{values_d, values_o, values_o_at}
 use denote.RattleType.{RattleType}
 use Rattle.starlark_ast.specs.contracts.ast.AssignTargetP as targets
 use Rattle.starlark_ast.specs.contracts.ast.ClauseP as clauses
 use Rattle.starlark_ast.specs.contracts.ast.ExprP as exprs
+use Rattle.starlark_ast.specs.contracts.ast.StmtP as stmts
 
 pub both : {X Y Z : Type 0} (h : X → Y → Z) {a b : X} {x y : Y} → a ≡ b → x ≡ y → h a x ≡ h b y
 both h {a} {b} {x} {y} e k = ap (λ q. h q x) e ∙ ap (λ q. h b q) k
@@ -37,3 +38,10 @@ module _ (P L I A D T : RattleType) where
 
   pub clause_lent : (k : ℕ) {V : Type 0} (made : V → ValuesAt (clauses.enum P L I A D T).parts k → (clauses.enum P L I A D T).D) (R : (clauses.enum P L I A D T).D → (clauses.enum P L I A D T).D → Type 0) {s : (clauses.enum P L I A D T).D} (y : V) (w : ValuesAt (clauses.enum P L I A D T).parts k) → s ≡ at (clauses.enum P L I A D T) k w → R (at (clauses.enum P L I A D T) k w) (made y w) → R s (put_in made (values_o (clauses.enum P L I A D T) k s) s y)
   clause_lent k made R {s} y w is h = lent_into made R (values_o (clauses.enum P L I A D T) k) s y w (ap (values_o (clauses.enum P L I A D T) k) is ∙ values_o_at (clauses.enum P L I A D T) k w) (seen R is h)
+
+  pub stmt_lent : (k : ℕ) {V : Type 0} (made : V → ValuesAt (stmts.enum P L I A D T).parts k → (stmts.enum P L I A D T).D) (R : (stmts.enum P L I A D T).D → (stmts.enum P L I A D T).D → Type 0) {s : (stmts.enum P L I A D T).D} (y : V) (w : ValuesAt (stmts.enum P L I A D T).parts k) → s ≡ at (stmts.enum P L I A D T) k w → R (at (stmts.enum P L I A D T) k w) (made y w) → R s (put_in made (values_o (stmts.enum P L I A D T) k s) s y)
+  stmt_lent k made R {s} y w is h = lent_into made R (values_o (stmts.enum P L I A D T) k) s y w (ap (values_o (stmts.enum P L I A D T) k) is ∙ values_o_at (stmts.enum P L I A D T) k w) (seen R is h)
+
+  -- the fields of the k-th variant of a statement
+  abbrev pub stmt_fields : (k : ℕ) → ValuesAt (stmts.enum P L I A D T).parts k → (stmts.enum P L I A D T).D → ValuesAt (stmts.enum P L I A D T).parts k
+  stmt_fields k v s = values_d (stmts.enum P L I A D T) k v s

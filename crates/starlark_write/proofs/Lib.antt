@@ -1,5 +1,13 @@
+pub mod EachWritten
 pub mod KeptParts
+pub mod KeptStatements
+pub mod KeptTypes
 pub mod Lent
 pub mod LiftedWrites
 pub mod Loops
+pub mod NodesWritten
+pub mod StatementTypeParts
+pub mod TypeParts
+pub mod TypelessNodes
 pub mod Writes
+pub mod WritesTops

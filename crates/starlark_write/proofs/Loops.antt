@@ -2,7 +2,7 @@
 use Rattle.std.proofs.Math.ListN.{set}
 use Rattle.std.proofs.Math.Seq.{take-length}
 use Rattle.std.proofs.lemmas.Grind.{common_steps, flat_map-append}
-use Rattle.std.proofs.lemmas.List.{drop-drop, flat_map_more, get_or-drop, take_more, take_more_set, set_split, drop-set-lt}
+use Rattle.std.proofs.lemmas.List.{drop-drop, flat_map_more, get_or-drop, take_more, take_more_set, take-append-le, set_split, drop-set-lt}
 use Rattle.std.proofs.Common.{ℕ, suc, ◌+◌, ◌<◌, ◌≤◌, ◌≡◌, refl, sym, ap, ◌∙◌, subst, List, [], ◌∷◌, ◌++◌, flat_map, map, take, drop, take-append-drop, length, get_or, length-set, append-nil, Result, Ok, Err, arith, add-one}
 use Rattle.std.specs.Borrow.{MutBor}
 use Rattle.std.specs.Fn.{Mut}
@@ -87,6 +87,10 @@ module _ {X : Type 0} (old xs : List X) (i : ℕ) (x y : X) (below : i < length 
 -- at the end all is done
 pub whole : {X : Type 0} (xs : List X) (n : ℕ) → n ≡ length xs → xs ≡ take n xs
 whole xs n is = sym (take-length xs) ∙ ap (λ k. take k xs) (sym is)
+
+-- the front of a list that all was put in front of
+pub take_back : {X : Type 0} (xs zs : List X) (n : ℕ) → n ≡ length xs → take n (xs ++ zs) ≡ xs
+take_back xs zs n is = take-append-le n xs zs (omega (arith, is)) ∙ sym (whole xs n is)
 
 -- what holds of the whole lists once all is written
 pub end_in : {X : Type 0} (R : X → X → Type 0) (Q : List X → List X → Type 0) → ((vs ws zs : List X) → Both R vs ws → Q (vs ++ zs) (ws ++ zs)) → (old xs : List X) (n : ℕ) → n ≡ length old → n ≡ length xs → Both R (take n old) (take n xs) → Q old xs

@@ -1,0 +1,9 @@
+use Rattle.std.proofs.Common.{refl, [], ◌∷◌}
+use Rattle.starlark_write.proofs.Writes.{writes_stop, writes_then}
+use Rattle.starlark_write.proofs.statements.ForPVisitExprMut.visit_expr_err_mut.Goals as goal
+
+pub returns-in-Err-clause-calls : goal.returns-in-Err-clause-calls
+returns-in-Err-clause-calls g c = writes_stop g.F.FnMut (c.args.self.now.over ∷ []) c.visit_expr_err_mut.ensures.calls c.in-Err.is refl
+
+pub returns-clause-calls : goal.returns-clause-calls
+returns-clause-calls g c = writes_then g.F.FnMut c.visit_expr_err_mut.ensures.calls c.in_default.is c.one.ensures.calls
