@@ -1,12 +1,9 @@
 pub mod Access
 pub mod Calls
-pub mod Copies
-pub mod Idents
 pub mod Lending
 pub mod Nodes
 pub mod Places
 pub mod Printing
-pub mod Replacing
 pub mod Shown
 pub mod StatementViews
 pub mod Statements

@@ -4,18 +4,11 @@ use Rattle.starlark_ast.specs.Places.{E, children}
 use Rattle.starlark_ast.specs.Statements.{S, def_places, exprs_below, stmts_below}
 use Rattle.starlark_ast.specs.declared.ast.DefP.{DefP, out-DefP}
 use Rattle.starlark_ast.specs.declared.ast.StmtP.{StmtP}
-use Rattle.starlark_ast.specs.declared.nodes.VisitOf.{VisitOf}
-use Rattle.starlark_ast.specs.declared.nodes.VisitOf.TheVariants as visit
 
 -- a statement or an expression, each with its place
 pub data Node (S X : Type 0) : Type 0 where
   statement : S → Node S X
   expression : X → Node S X
-
--- the node that is lent
-abbrev pub visited : {S X : Type 0} → VisitOf S X → Node S X
-visited (visit.Stmt x) = statement x.now
-visited (visit.Expr x) = expression x.now
 
 module _ {P L I A D T : Type 0} where
   -- the nodes right below a statement: the expressions, then the statements

@@ -4,7 +4,7 @@ use Rattle.std.specs.Bool.{MatchBool}
 use Rattle.starlark_lexer.specs.declared.dialect.Dialect.{Dialect}
 use Rattle.starlark_lexer.specs.declared.dialect.DialectTypes.TheVariants.{Disable, Enable}
 use Rattle.starlark_ast.specs.Tree.{Statement}
-use Rattle.starlark_parser.specs.Language.{Fault, IsRefused, Language}
+use Rattle.starlark_grammar.specs.Language.{Fault, IsRefused, Language}
 use Rattle.starlark_parser.specs.Modules.{dialect_of as dialect_read, file_of, tree_of}
 use Rattle.starlark_parser.specs.declared.module.AstModule.{AstModule}
 use Rattle.starlark_c_parser.specs.declared.switches.Switches.{Switches}

@@ -25,7 +25,7 @@ use Rattle.starlark_ast.specs.declared.ast.ParameterP.{ParameterP}
 use Rattle.starlark_ast.specs.declared.ast.StmtP.{StmtP}
 use Rattle.starlark_ast.specs.declared.ast.StmtP.TheVariants as stmt
 use Rattle.starlark_ast.specs.declared.ast.TypeExprP.{TypeExprP}
-use Rattle.starlark_make.specs.Made.{annotation_of}
+use Rattle.starlark_grammar.specs.Made.{annotation_of}
 use Rattle.starlark_make.specs.Kept.{boxed_type_at}
 
 module _ {P L I A D T : Type 0} where

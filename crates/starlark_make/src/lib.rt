@@ -1,7 +1,8 @@
-//! What a parser makes of what it reads: makers of nodes over any trees, and those of the trees that are kept.
+//! Makers of the trees that are kept, and the rules that these break.
 #![tactic(auto)]
 
 mod boxes;
-pub mod make;
+mod broken;
+mod ends;
 pub mod parts;
 pub mod trees;

@@ -3,14 +3,14 @@
 ghost use Rattle.std.specs.Prelude.{◌≡◌, IfOk, string_bytes};
 ghost use Rattle.starlark_ast.specs.Tree as tree;
 ghost use Rattle.starlark_ast.specs.View.{comma_at, expr_at, ident_at, stmt_at};
-ghost use Rattle.starlark_make.specs.Made.{sign_of};
+ghost use Rattle.starlark_grammar.specs.Made.{sign_of};
 ghost use Rattle.starlark_make.specs.Kept.{boxed_type_at};
 
 use crate::boxes::boxed;
-use crate::make::Sign;
 use starlark_ast::ast::{
     AssignIdentP, AstAssignIdent, AstExpr, AstStmt, AstTypeExpr, Comma, ExprP, TypeExprP,
 };
+use starlark_grammar::make::Sign;
 use starlark_place::pos::{Span, Spanned};
 use std::alloc::{AllocError, Global};
 

@@ -3,17 +3,17 @@
 ghost use Rattle.std.specs.Prelude.{◌≡◌, IfOk, string_bytes};
 ghost use Rattle.starlark_ast.specs.Tree as tree;
 ghost use Rattle.starlark_ast.specs.View.{argument_at, clause_view, expr_at, for_clause_view, members, parameter_at, stmt_at};
-ghost use Rattle.starlark_make.specs.Made.{annotation_of, bound_of, clauses_of, items_of, maybe_of, pairs_of, sequence_of, symbols_of};
+ghost use Rattle.starlark_grammar.specs.Made.{annotation_of, bound_of, clauses_of, items_of, maybe_of, pairs_of, sequence_of, symbols_of};
 ghost use Rattle.starlark_make.specs.Kept.{boxed_type_at, symbol_at};
 
 use crate::boxes::{boxed, boxed_both, boxed_first, boxed_with_three, maybe_boxed_first};
-use crate::make::{Make, Sign};
 use crate::parts::{assigned, maybe_comma, place_of, signed, statement_place_of};
 use starlark_ast::ast::{
     ArgumentP, AstArgument, AstAssignTarget, AstExpr, AstLiteral, AstNoPayload, AstParameter,
     AstStmt, AstTypeExpr, BinOp, CallArgsP, Clause, ClauseP, DefP, ExprP, FStringP, ForClause,
     ForClauseP, ForP, IdentP, LambdaP, LoadArgP, LoadP, ParameterP, StmtP,
 };
+use starlark_grammar::make::{Make, Sign};
 use starlark_lexer::token::TokenInt;
 use starlark_place::pos::{Span, Spanned};
 use std::alloc::{AllocError, Global};

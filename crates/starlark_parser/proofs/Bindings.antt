@@ -17,12 +17,12 @@ use Rattle.starlark_ast.specs.View.{stmt_at, symbols}
 use Rattle.starlark_ast.specs.declared.ast.AstNoPayload.{AstNoPayload}
 use Rattle.starlark_ast.specs.declared.ast.LoadArgP.{LoadArgP}
 use Rattle.starlark_ast.specs.declared.ast.StmtP.TheVariants as variant
-use Rattle.starlark_parser.specs.Ends.{SequenceAt, StatementAt}
+use Rattle.starlark_grammar.specs.Ends.{SequenceAt, StatementAt}
 use Rattle.starlark_parser.specs.Loaded.{Loaded, all_loads, bindings, bound_too, loads_in}
 use Rattle.starlark_parser.specs.Shown.{binding, loaded}
 use Rattle.starlark_parser.specs.declared.loads.AstLoad.{AstLoad}
-use Rattle.starlark_parser.proofs.Alls.{All-flat_map}
-use Rattle.starlark_parser.proofs.Variants.{Load, Stmt, count, falls, of_block, of_load}
+use Rattle.starlark_grammar.proofs.Alls.{All-flat_map}
+use Rattle.starlark_grammar.proofs.Variants.{Load, Stmt, count, falls, of_block, of_load}
 
 abbrev Arg : Type 0
 Arg = LoadArgP AstNoPayload (Unit {0}) (Unit {0}) (Unit {0}) (Unit {0}) (Unit {0})

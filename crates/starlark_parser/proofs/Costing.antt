@@ -3,14 +3,14 @@ use Rattle.std.proofs.Common.{◌≡◌, ◌≢◌, ◌≤◌, ℕ, suc, ◌+◌
 use Rattle.starlark_place.specs.Place.{File}
 use Rattle.starlark_lexer.specs.Items.{Lexed}
 use Rattle.starlark_lexer.specs.Lex.{Lex, start}
-use Rattle.starlark_parser.specs.declared.cost.Cost.{Cost}
+use Rattle.starlark_read.specs.declared.cost.Cost.{Cost}
 use Rattle.starlark_parser.specs.declared.fault.EvalException.{EvalException}
 use Rattle.starlark_parser.specs.declared.fault.EvalException.TheVariants as exception
-use Rattle.starlark_parser.specs.Asides.{counted}
+use Rattle.starlark_read.specs.Asides.{counted}
 use Rattle.starlark_parser.specs.Costs.{Costs, IsPartly, IsWhole}
 use Rattle.starlark_parser.specs.Faults.{Tells}
-use Rattle.starlark_parser.specs.Language.{Fault, last_end, uncommented}
-use Rattle.starlark_parser.proofs.Ended.{ended}
+use Rattle.starlark_grammar.specs.Language.{Fault, last_end, uncommented}
+use Rattle.starlark_grammar.proofs.Ended.{ended}
 
 -- a text has too few lexemes for the count to stop
 fits : (n m : ℕ) → n ≤ 4294967295 → m ≤ 2 * n + 1 → counted (suc m) ≡ suc m

@@ -4,10 +4,10 @@ use Rattle.starlark_place.specs.Place.{Extent}
 use Rattle.starlark_ast.specs.declared.ast.BinOp.{BinOp}
 use Rattle.starlark_ast.specs.Tree as t
 use Rattle.starlark_ast.specs.Tree.{Expr, Member, Members, Bound, Annotation, Subscript, Clause, Clauses, Statement, Sequence}
-use Rattle.starlark_ast.specs.Replacing as r
-use Rattle.starlark_ast.specs.Replacing.{Renaming, operated, replaced, replaced_statement}
-use Rattle.starlark_parser.specs.Ends.{At, ExprAt, MemberAt, MembersAt, BoundAt, AnnotationAt, SubscriptAt, ClauseAt, ClausesAt, SomeAt, StatementAt, SequenceAt}
-use Rattle.starlark_parser.proofs.EndsOfExpressions.{place_at}
+use Rattle.starlark_clone.specs.Replacing as r
+use Rattle.starlark_clone.specs.Replacing.{Renaming, operated, replaced, replaced_statement}
+use Rattle.starlark_grammar.specs.Ends.{At, ExprAt, MemberAt, MembersAt, BoundAt, AnnotationAt, SubscriptAt, ClauseAt, ClausesAt, SomeAt, StatementAt, SequenceAt}
+use Rattle.starlark_grammar.proofs.EndsOfExpressions.{place_at}
 
 module _ (B : ℕ → Type 0) (names : Renaming) where
   operated_at : (n : Option (List ℕ)) (x : Expr) (o : BinOp) (y : Expr) (s : Extent) → At B s → ExprAt B x → ExprAt B y → ExprAt B (operated n x o y s)

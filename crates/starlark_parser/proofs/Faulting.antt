@@ -4,7 +4,7 @@ use Rattle.starlark_place.specs.Place.{File, Holds}
 use Rattle.starlark_lexer.specs.declared.dialect.Dialect.{Dialect}
 use Rattle.starlark_parser.specs.declared.fault.EvalException.{EvalException}
 use Rattle.starlark_parser.specs.declared.fault.EvalException.TheVariants as exception
-use Rattle.starlark_parser.specs.Language.{Fault, IsRefused, place_of}
+use Rattle.starlark_grammar.specs.Language.{Fault, IsRefused, place_of}
 use Rattle.starlark_parser.specs.Faults.{Tells, IsFault}
 
 told : (d : Dialect) (m : File) (o : Option Fault) (e : EvalException) → Tells o m e → ((f : Fault) → o ≡ Some f → IsRefused d m.source f) → IsFault d m e

@@ -18,10 +18,10 @@ use Rattle.starlark_ast.specs.declared.ast.ForP.{out-ForP}
 use Rattle.starlark_ast.specs.declared.ast.StmtP.{StmtP-F, out-StmtP, roll-StmtP, roll-out-StmtP}
 use Rattle.starlark_ast.specs.declared.ast.StmtP.TheOpen as layer
 use Rattle.starlark_ast.specs.declared.ast.StmtP.TheVariants as variant
-use Rattle.starlark_parser.specs.Ends.{SequenceAt, StatementAt}
+use Rattle.starlark_grammar.specs.Ends.{SequenceAt, StatementAt}
 use Rattle.starlark_parser.specs.Locations.{all_locations, locations}
-use Rattle.starlark_parser.proofs.Alls.{All-back, All-flat_map, All-front}
-use Rattle.starlark_parser.proofs.Variants.{Def, Expr, For, Node, Stmt, count, falls, of_block, of_def, of_either, of_for, of_if}
+use Rattle.starlark_grammar.proofs.Alls.{All-back, All-flat_map, All-front}
+use Rattle.starlark_grammar.proofs.Variants.{Def, Expr, For, Node, Stmt, count, falls, of_block, of_def, of_either, of_for, of_if}
 
 -- ---- in a tree of a text all are held
 

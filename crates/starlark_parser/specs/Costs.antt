@@ -2,7 +2,7 @@
 use Rattle.std.specs.Prelude.{◌≡◌, ◌≤◌, ℕ, suc, List, length, Result, Ok, Err}
 use Rattle.starlark_lexer.specs.Items.{Lexed}
 use Rattle.starlark_lexer.specs.Lex.{Lex, start}
-use Rattle.starlark_parser.specs.declared.cost.Cost.{Cost}
+use Rattle.starlark_read.specs.declared.cost.Cost.{Cost}
 use Rattle.starlark_parser.specs.declared.fault.EvalException.{EvalException}
 use Rattle.starlark_parser.specs.declared.fault.EvalException.TheVariants as exception
 use Rattle.starlark_parser.specs.declared.module.AstModule.{AstModule}

@@ -5,15 +5,15 @@ use Rattle.starlark_place.specs.Diagnostic.{inner_of, span_of, frames_of}
 use Rattle.starlark_place.specs.declared.diagnostic.WithDiagnostic.{WithDiagnostic}
 use Rattle.starlark_lexer.specs.declared.token.LexemeError.{LexemeError}
 use Rattle.starlark_lexer.specs.declared.dialect.Dialect.{Dialect}
-use Rattle.starlark_rules.specs.Rules.{Rule}
-use Rattle.starlark_rules.specs.View.{rule_view}
+use Rattle.starlark_rulebook.specs.Rules.{Rule}
+use Rattle.starlark_rulebook.specs.View.{rule_view}
 use Rattle.starlark_parser.specs.declared.fault.ParserError.{ParserError}
 use Rattle.starlark_parser.specs.declared.fault.ParserError.TheVariants as error
 use Rattle.starlark_parser.specs.declared.fault.ParserErrorKind.{ParserErrorKind}
 use Rattle.starlark_parser.specs.declared.fault.ParserErrorKind.TheVariants as kind
 use Rattle.starlark_parser.specs.declared.fault.EvalException.{EvalException}
 use Rattle.starlark_parser.specs.declared.fault.EvalException.TheVariants as exception
-use Rattle.starlark_parser.specs.Language.{Fault, IsRefused, by_lexer, unexpected, unexpected_end, by_rule, place_of}
+use Rattle.starlark_grammar.specs.Language.{Fault, IsRefused, by_lexer, unexpected, unexpected_end, by_rule, place_of}
 
 abbrev pub kind_of : ParserError → ParserErrorKind
 kind_of (error.Lexer e) = kind.Lexer

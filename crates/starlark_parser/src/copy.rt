@@ -4,6 +4,7 @@ ghost use Rattle.std.specs.Prelude.{◌≡◌, IfOk};
 ghost use Rattle.starlark_parser.specs.Modules.{comments_of, dialect_of, file_of, joined_of, tree_of};
 
 use crate::module::AstModule;
+use starlark_clone::clone_tree::CloneTree;
 use starlark_place::pos::Spanned;
 use std::alloc::{AllocError, Global};
 

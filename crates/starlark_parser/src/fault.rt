@@ -3,14 +3,14 @@
 ghost use Rattle.std.specs.Prelude.{◌≡◌, IfSome};
 ghost use Rattle.starlark_place.specs.Place.{Holds};
 ghost use Rattle.starlark_parser.specs.Faults.{Tells, kind_of};
-ghost use Rattle.starlark_parser.specs.Language.{place_of};
-ghost use Rattle.starlark_parser.specs.Refused.{fault_of};
+ghost use Rattle.starlark_grammar.specs.Language.{place_of};
+ghost use Rattle.starlark_read.specs.Refused.{fault_of};
 
-use crate::refused::Refused;
 use starlark_lexer::token::LexemeError;
 use starlark_place::codemap::CodeMap;
 use starlark_place::diagnostic::WithDiagnostic;
 use starlark_place::pos::Span;
+use starlark_read::refused::Refused;
 use starlark_rules::rule::Rule;
 use std::alloc::{AllocError, AllocFailed, Global};
 use thiserror::Error;

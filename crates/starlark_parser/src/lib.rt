@@ -1,54 +1,17 @@
-//! The language: grammar, machine, marks, and their laws; and the parser, which reads a text of it into a tree.
+//! The parser, which reads a text of the language into a module: a tree with its file, its comments and its dialect.
 #![tactic(auto)]
 
-mod arguments;
-mod assignment;
-mod atoms;
-mod block;
-mod brackets;
-mod branches;
-pub mod build;
-mod comprehension;
 mod copy;
-pub mod cost;
-mod definition;
 pub mod element;
-mod ends;
-mod error;
-mod expression;
-mod f_string;
 pub mod fault;
-mod feed;
 pub mod fields;
-mod for_loop;
-mod kind;
-pub mod laws;
-mod listed;
-mod load;
 pub mod loads;
 pub mod locations;
 pub mod module;
-mod names;
-mod operators;
-mod parameters;
 mod parsing;
-mod read;
-mod refused;
 mod replacing;
-mod row;
-mod signature;
-mod signs;
-mod small;
-mod statement;
-mod statements;
-mod subscripts;
-mod suffixes;
-mod suite;
 mod suppression;
-pub mod text_laws;
-mod tokens;
-mod trees;
-mod types;
 
 pub use starlark_ast as ast;
+pub use starlark_read::cost;
 pub use starlark_rules as rules;

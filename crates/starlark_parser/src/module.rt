@@ -2,12 +2,10 @@
 
 ghost use Rattle.std.specs.Str.{IsCharBoundary};
 ghost use Rattle.starlark_ast.specs.View.{stmt_at};
-ghost use Rattle.starlark_parser.specs.Comments.{AreHeld};
-ghost use Rattle.starlark_parser.specs.Ends.{StatementAt};
+ghost use Rattle.starlark_grammar.specs.Comments.{AreHeld};
+ghost use Rattle.starlark_grammar.specs.Ends.{StatementAt};
 
-use crate::cost::Cost;
 use crate::fault::EvalException;
-use crate::feed::Comments;
 use crate::parsing::module_of;
 use crate::suppression::is_suppressed;
 use starlark_ast::ast::AstStmt;
@@ -15,6 +13,8 @@ use starlark_lexer::dialect::Dialect;
 use starlark_place::codemap::{CodeMap, CodeMapId};
 use starlark_place::file_span::FileSpan;
 use starlark_place::pos::Span;
+use starlark_read::cost::Cost;
+use starlark_read::told::Comments;
 use std::alloc::{AllocError, Global};
 
 /// A text that is in the language, with its tree.
@@ -45,9 +45,9 @@ impl Drop for AstModule {
 impl AstModule {
     ghost use Rattle.std.specs.Prelude.{◌≡◌, ◌<◌, ◌↔◌, IfOk, IfErr, IsErrOf, string_bytes, length};
     ghost use Rattle.starlark_place.specs.Place.{Holds, file_place};
-    ghost use Rattle.starlark_parser.specs.Comments.{AreComments};
+    ghost use Rattle.starlark_grammar.specs.Comments.{AreComments};
     ghost use Rattle.starlark_parser.specs.Costs.{Costs};
-    ghost use Rattle.starlark_parser.specs.Language.{Language};
+    ghost use Rattle.starlark_grammar.specs.Language.{Language};
     ghost use Rattle.starlark_parser.specs.Faults.{IsFault};
     ghost use Rattle.starlark_parser.specs.Modules.{comments_of, dialect_of, file_of, joined_of, tree_of};
     ghost use Rattle.starlark_parser.specs.Suppressions.{is_suppressed};

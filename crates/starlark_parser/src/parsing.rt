@@ -1,23 +1,23 @@
 //! How a module is made.
 
 ghost use Rattle.std.specs.Prelude.{◌≡◌, ◌<◌, ◌↔◌, IfOk, IfErr, IsErrOf, string_bytes, length};
-ghost use Rattle.starlark_parser.specs.Comments.{AreComments};
+ghost use Rattle.starlark_grammar.specs.Comments.{AreComments};
 ghost use Rattle.starlark_parser.specs.Costs.{Costs};
-ghost use Rattle.starlark_parser.specs.Language.{Language};
+ghost use Rattle.starlark_grammar.specs.Language.{Language};
 ghost use Rattle.starlark_parser.specs.Faults.{IsFault};
 ghost use Rattle.starlark_parser.specs.Modules.{comments_of, dialect_of, file_of, joined_of, tree_of};
 
-use crate::cost::Cost;
 use crate::fault::{EvalException, refusal};
-use crate::feed::Told;
 use crate::module::AstModule;
-use crate::read::read;
-use crate::text_laws::held_places;
+use starlark_grammar::text_laws::held_places;
 use starlark_lexer::dialect::Dialect;
 use starlark_lexer::laws::in_order;
 use starlark_lexer::lexer::Lexer;
 use starlark_make::trees::Trees;
 use starlark_place::codemap::{CodeMap, CodeMapId};
+use starlark_read::cost::Cost;
+use starlark_read::read::read;
+use starlark_read::told::Told;
 use std::alloc::Global;
 
 /// The module of a text under a name, and what the reading took.

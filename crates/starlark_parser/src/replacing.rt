@@ -1,10 +1,11 @@
 //! Operators of a module that become calls.
 
 ghost use Rattle.std.specs.Prelude.{◌≡◌, OnOk, OnErr};
-ghost use Rattle.starlark_ast.specs.Replacing.{renaming, replaced_statement};
+ghost use Rattle.starlark_clone.specs.Replacing.{renaming, replaced_statement};
 ghost use Rattle.starlark_parser.specs.Modules.{comments_of, dialect_of, file_of, joined_of, tree_of};
 
 use crate::module::AstModule;
+use starlark_clone::renaming::with_calls_for_operators;
 use std::alloc::{AllocError, Global};
 use std::collections::HashMap;
 
@@ -25,8 +26,7 @@ impl AstModule {
         ensures comments { comments_of self.new ≡ comments_of self.old }
         ensures joined { joined_of self.new ≡ joined_of self.old }
     {
-        let tree = &self.statement.node;
-        let node = tree.with_calls_for_operators(alloc, replace)?;
+        let node = with_calls_for_operators(alloc, &self.statement.node, replace)?;
         self.statement.node = node;
         Ok(())
     }

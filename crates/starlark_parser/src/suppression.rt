@@ -4,7 +4,7 @@ ghost use Rattle.std.specs.Prelude.{◌≡◌, ◌≤◌, ◌<◌, ◌++◌, [],
 ghost use Rattle.std.specs.List.{list_any};
 ghost use Rattle.std.specs.Str.{IsCharBoundary};
 ghost use Rattle.starlark_place.specs.Place.{Holds};
-ghost use Rattle.starlark_parser.specs.Comments.{AreHeld};
+ghost use Rattle.starlark_grammar.specs.Comments.{AreHeld};
 ghost use Rattle.starlark_parser.specs.Suppressions.{behind, covers, is_suppressed, list_of, names_in, names_of, parts_names, reaches_on, same_text, stands_first, with_next_line};
 ghost use Rattle.starlark_parser.specs.Tallies.{IsSound, IsWithin, suppresses, tallied};
 

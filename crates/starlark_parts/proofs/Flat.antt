@@ -7,13 +7,13 @@ use Rattle.starlark_lexer.specs.Items.{Item}
 use Rattle.starlark_lexer.specs.declared.dialect.Dialect.{Dialect}
 use Rattle.starlark_ast.specs.Tree as t
 use Rattle.starlark_ast.specs.Tree.{Statement, Sequence}
-use Rattle.starlark_rules.specs.Kept.{kept_rules}
-use Rattle.starlark_rules.specs.Late.{at_top_level, expressions_rules, late_rules, sequence_rules, statement_rules}
-use Rattle.starlark_rules.specs.Rules.{Finding, first_finding, first_of}
-use Rattle.starlark_parser.specs.Events.{end_finding}
-use Rattle.starlark_parser.specs.Grammar.{Derives, Statements, Stmt, Tail, whole, nothing, blank, next_stmt, simple, branches, loops, defines, only, or_else, or_if}
-use Rattle.starlark_parser.specs.Nodes.{block_of}
-use Rattle.starlark_parser.specs.Simple.{Simple, Small, Smalls, returns, returns_it, breaks_off, continues, passes, loads, evaluates, assigns, annotates, one_small, next_small, row, row_semicolon}
+use Rattle.starlark_rulebook.specs.Kept.{kept_rules}
+use Rattle.starlark_rulebook.specs.Late.{at_top_level, expressions_rules, late_rules, sequence_rules, statement_rules}
+use Rattle.starlark_rulebook.specs.Rules.{Finding, first_finding, first_of}
+use Rattle.starlark_grammar.specs.Events.{end_finding}
+use Rattle.starlark_grammar.specs.Grammar.{Derives, Statements, Stmt, Tail, whole, nothing, blank, next_stmt, simple, branches, loops, defines, only, or_else, or_if}
+use Rattle.starlark_grammar.specs.Nodes.{block_of}
+use Rattle.starlark_grammar.specs.Simple.{Simple, Small, Smalls, returns, returns_it, breaks_off, continues, passes, loads, evaluates, assigns, annotates, one_small, next_small, row, row_semicolon}
 use Rattle.starlark_parts.specs.Flat.{AllIn, AreRows, AreWorded, IsFlat, IsRow, is_list}
 use Rattle.starlark_parts.specs.Tops.{all_top, top_level, word_of}
 

@@ -10,7 +10,7 @@ use Rattle.starlark_lexer.specs.Joining.{IsClosed}
 use Rattle.starlark_lexer.specs.declared.dialect.Dialect.{Dialect}
 use Rattle.starlark_ast.specs.Tree.{Statement, statement_place}
 use Rattle.starlark_ast.specs.View.{stmt_at}
-use Rattle.starlark_parser.specs.Language.{Language}
+use Rattle.starlark_grammar.specs.Language.{Language}
 use Rattle.starlark_parser.specs.Modules.{file_of, tree_of}
 use Rattle.starlark_parser.specs.declared.fault.EvalException.{EvalException}
 use Rattle.starlark_parser.specs.declared.module.AstModule.{AstModule}

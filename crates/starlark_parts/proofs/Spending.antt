@@ -3,7 +3,7 @@ use Rattle.std.proofs.Common.{List, ℕ}
 use Rattle.std.specs.Prelude.{Err, IfErr, Ok, Result}
 use Rattle.starlark_place.specs.declared.diagnostic.WithDiagnostic.{WithDiagnostic}
 use Rattle.starlark_parser.specs.Costs.{IsPartly, IsWhole}
-use Rattle.starlark_parser.specs.declared.cost.Cost.{Cost}
+use Rattle.starlark_read.specs.declared.cost.Cost.{Cost}
 use Rattle.starlark_parser.specs.declared.fault.ParserError.{ParserError}
 use Rattle.starlark_parts.specs.Held.{MissesEnd, Resolves}
 use Rattle.starlark_parts.specs.Spent.{SpentOn}

@@ -10,7 +10,7 @@ use Rattle.starlark_lexer.specs.Joining.{IsClosed}
 use Rattle.starlark_lexer.specs.declared.dialect.Dialect.{Dialect}
 use Rattle.starlark_ast.specs.Tree.{Statement}
 use Rattle.starlark_ast.specs.View.{stmt_at}
-use Rattle.starlark_parser.specs.Language.{Fault, IsRefused, Language}
+use Rattle.starlark_grammar.specs.Language.{Fault, IsRefused, Language}
 use Rattle.starlark_parser.specs.Modules.{file_of, tree_of}
 use Rattle.starlark_parser.specs.declared.fault.ParserError.{ParserError}
 use Rattle.starlark_parts.specs.Edits.{Tells}

@@ -2,7 +2,7 @@
 use Rattle.std.specs.Prelude.{◌<◌, ◌≤◌, ℕ, List, [], length, get_or, set, Option, Some, None}
 use Rattle.std.specs.List.{flat_map, insert, remove}
 use Rattle.starlark_lexer.specs.declared.dialect.Dialect.{Dialect}
-use Rattle.starlark_parser.specs.declared.cost.Cost.{Cost}
+use Rattle.starlark_read.specs.declared.cost.Cost.{Cost}
 
 -- the parts' texts, how many bytes they may have together, the dialect that they are read in, and what the reading of the last edit took
 pub record Kept : Type 0 where

@@ -5,7 +5,7 @@ use Rattle.starlark_place.specs.Resolved.{resolved}
 use Rattle.starlark_place.specs.declared.resolved.ResolvedPos.{ResolvedPos}
 use Rattle.starlark_lexer.specs.declared.dialect.Dialect.{Dialect}
 use Rattle.starlark_ast.specs.Tree.{Statement, statement_place}
-use Rattle.starlark_parser.specs.Language.{Language}
+use Rattle.starlark_grammar.specs.Language.{Language}
 use Rattle.starlark_parts.specs.Tops.{top_level, word_of}
 use Rattle.starlark_parts.specs.declared.word.OutlineItem.{OutlineItem}
 

@@ -1,7 +1,7 @@
 -- What the reading of an edit took.
 use Rattle.std.specs.Prelude.{◌≡◌, ℕ, List, Result, Ok, Err}
 use Rattle.starlark_parser.specs.Costs.{IsPartly, IsWhole}
-use Rattle.starlark_parser.specs.declared.cost.Cost.{Cost}
+use Rattle.starlark_read.specs.declared.cost.Cost.{Cost}
 use Rattle.starlark_parts.specs.Kept.{Edit, inserts, replaces, removes, moves}
 use Rattle.starlark_parts.specs.declared.fault.PartFault.{PartFault}
 use Rattle.starlark_parts.specs.declared.fault.PartFault.TheVariants as faults

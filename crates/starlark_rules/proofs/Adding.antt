@@ -8,10 +8,10 @@ use Rattle.starlark_ast.specs.Tree as t
 use Rattle.starlark_ast.specs.declared.ast.StmtP.{StmtP}
 use Rattle.starlark_ast.specs.StatementViews.{statements_of}
 use Rattle.starlark_ast.specs.View.{stmt_at}
-use Rattle.starlark_rules.specs.declared.rule.Rule.{Rule}
-use Rattle.starlark_rules.specs.Found.{Adds, findings}
-use Rattle.starlark_rules.specs.Late.{Standing, statement_rules, sequence_rules, expressions_rules, inner_rules}
-use Rattle.starlark_rules.specs.Rules.{Finding}
+use Rattle.starlark_rulebook.specs.declared.rule.Rule.{Rule}
+use Rattle.starlark_rulebook.specs.Found.{Adds, findings}
+use Rattle.starlark_rulebook.specs.Late.{Standing, statement_rules, sequence_rules, expressions_rules, inner_rules}
+use Rattle.starlark_rulebook.specs.Rules.{Finding}
 
 pub adds_as : {before after : List (Spanned Rule)} (found other : List Finding) → found ≡ other → Adds before found after → Adds before other after
 adds_as {before} {after} found other e h = record { all = h.all ∙ ap (λ fs. findings before ++ fs) e }

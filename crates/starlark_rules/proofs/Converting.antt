@@ -9,8 +9,8 @@ use Rattle.starlark_ast.specs.Tree.{Members}
 use Rattle.starlark_ast.specs.View.{expr_at, target_at}
 use Rattle.starlark_ast.specs.Views.{items_of, targets_of}
 use Rattle.starlark_rules.specs.Assignable.{weight, weights}
-use Rattle.starlark_rules.specs.Rules.{first_of}
-use Rattle.starlark_rules.specs.Targets as targets
+use Rattle.starlark_rulebook.specs.Rules.{first_of}
+use Rattle.starlark_rulebook.specs.Targets as targets
 
 pub none_first : {A : Type 0} (o p : Option A) → first_of o p ≡ None → o ≡ None
 none_first None p e = refl

@@ -8,14 +8,15 @@ use Rattle.starlark_ast.specs.declared.ast.AssignOp.TheVariants.{Add}
 use Rattle.starlark_ast.specs.Tree as t
 use Rattle.starlark_ast.specs.Tree.{Expr, Member, Members, Statement}
 use Rattle.starlark_rules.specs.declared.def.DefRegularParamMode.TheVariants.{PosOnly, PosOrName, NameOnly}
-use Rattle.starlark_rules.specs.Rules as r
-use Rattle.starlark_rules.specs.Rules.{breaks}
-use Rattle.starlark_rules.specs.Targets.{target_fault, assignment_fault}
-use Rattle.starlark_rules.specs.Calls.{first_call_fault}
-use Rattle.starlark_rules.specs.Types.{type_form, first_type_fault, index_form, path_form, path}
-use Rattle.starlark_rules.specs.Parameters.{first_parameter_fault, params_of, indices_of, param, regular, kwargs_kind}
-use Rattle.starlark_rules.specs.Kept.{kept_rules}
-use Rattle.starlark_rules.specs.Late.{late_rules}
+use Rattle.starlark_rulebook.specs.Rules as r
+use Rattle.starlark_rulebook.specs.Rules.{breaks}
+use Rattle.starlark_rulebook.specs.Targets.{target_fault, assignment_fault}
+use Rattle.starlark_rulebook.specs.Calls.{first_call_fault}
+use Rattle.starlark_rulebook.specs.Types.{type_form, first_type_fault, index_form, path_form, path}
+use Rattle.starlark_rulebook.specs.Parameters.{first_parameter_fault}
+use Rattle.starlark_rules.specs.ParameterKinds.{params_of, indices_of, param, regular, kwargs_kind}
+use Rattle.starlark_rulebook.specs.Kept.{kept_rules}
+use Rattle.starlark_rulebook.specs.Late.{late_rules}
 
 -- a name of one letter
 abbrev name : ℕ → ℕ → Expr

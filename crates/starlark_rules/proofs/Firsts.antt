@@ -9,10 +9,10 @@ use Rattle.starlark_ast.specs.Tree.{Member, Members, Clause, Clauses, Statement,
 use Rattle.starlark_ast.specs.Access.{argument_expr}
 use Rattle.starlark_ast.specs.View.{members, argument_at, expr_at}
 use Rattle.starlark_ast.specs.declared.ast.ArgumentP.{ArgumentP}
-use Rattle.starlark_rules.specs.declared.rule.Rule.{Rule}
-use Rattle.starlark_rules.specs.Kept as kept
-use Rattle.starlark_rules.specs.Rules.{Finding, first_finding, first_of, listed}
-use Rattle.starlark_rules.specs.View.{maybe_finding}
+use Rattle.starlark_rulebook.specs.declared.rule.Rule.{Rule}
+use Rattle.starlark_rulebook.specs.Kept as kept
+use Rattle.starlark_rulebook.specs.Rules.{Finding, first_finding, first_of, listed}
+use Rattle.starlark_rulebook.specs.View.{maybe_finding}
 use Rattle.starlark_rules.proofs.Prefixes.{members_more}
 use Rattle.starlark_rules.proofs.Within.{behind, clauses_more, argument_as}
 

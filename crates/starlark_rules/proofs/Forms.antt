@@ -10,7 +10,7 @@ use Rattle.starlark_place.specs.declared.pos.Spanned.{Spanned}
 use Rattle.starlark_ast.specs.declared.ast.IdentP.{IdentP}
 use Rattle.starlark_rules.specs.Forms.{form_at, form_step, form_view, path_view, read_at}
 use Rattle.starlark_rules.specs.Misfits.{forms_view}
-use Rattle.starlark_rules.specs.Types.{Form, Forms, ellipsis_form, path_form, index_form, index2_form, list_form, union_form, tuple_form, no_forms, add_form}
+use Rattle.starlark_rulebook.specs.Types.{Form, Forms, ellipsis_form, path_form, index_form, index2_form, list_form, union_form, tuple_form, no_forms, add_form}
 use Rattle.starlark_rules.specs.declared.type_expr.TypePathP.{TypePathP}
 use Rattle.starlark_rules.specs.declared.type_expr.TypeExprUnpackP.{TypeExprUnpackP, fold-roll-TypeExprUnpackP}
 use Rattle.starlark_rules.specs.declared.type_expr.TypeExprUnpackP.TheOpen as layer

@@ -7,11 +7,11 @@ use Rattle.starlark_ast.specs.declared.ast.BinOp.TheVariants.{BitOr}
 use Rattle.starlark_ast.specs.Tree as t
 use Rattle.starlark_ast.specs.Tree.{Expr, Member, Members, Name}
 use Rattle.starlark_ast.specs.View.{members}
-use Rattle.starlark_rules.specs.Rules.{DotTypeBan, InvalidType}
-use Rattle.starlark_rules.specs.Parameters.{member_count}
-use Rattle.starlark_rules.specs.Types.{Role, alone, argument, list_form, union_form, Misfit, misfit, Form, Forms, Path, path, no_forms, add_form, from, from_both, index2_of, index2_form, form_of, forms_of, root, attributes, dotted, dotted_text}
+use Rattle.starlark_rulebook.specs.Rules.{DotTypeBan, InvalidType}
+use Rattle.starlark_rulebook.specs.Parameters.{member_count}
+use Rattle.starlark_rulebook.specs.Types.{Role, alone, argument, list_form, union_form, Misfit, misfit, Form, Forms, Path, path, no_forms, add_form, from, from_both, index2_of, index2_form, form_of, forms_of, root, attributes, dotted, dotted_text}
 use Rattle.starlark_rules.specs.Misfits.{Comes, Stops, list_members, path_text, stop_for}
-use Rattle.starlark_rules.specs.View.{type_fault_view}
+use Rattle.starlark_rulebook.specs.View.{type_fault_view}
 use Rattle.starlark_rules.specs.declared.types.Stop.{Stop}
 use Rattle.starlark_rules.specs.declared.types.Stop.TheVariants.{NoType, Memory}
 use Rattle.starlark_rules.proofs.Prefixes.{members_more}

@@ -12,9 +12,10 @@ use Rattle.starlark_ast.specs.Tree.{Stars, Member, Members, Annotation, Bound, m
 use Rattle.starlark_rules.specs.declared.def.Tally.{Tally}
 use Rattle.starlark_place.specs.Place.{merged_all}
 use Rattle.starlark_rules.specs.Named.{AreWithin}
-use Rattle.starlark_rules.specs.Rules.{Finding, breaks, TooManyParameters}
-use Rattle.starlark_rules.specs.Calls.{any}
-use Rattle.starlark_rules.specs.Parameters.{Param, param, params_before, params_of, mode_of, kind_of, positional_count, positional_only_count, args_index, kwargs_index, is_starred, is_mark, is_slash, parameters_fault, parameter_fault, first_parameter_fault, first_slash, fault_if, parameter_places, indices_of, member_count}
+use Rattle.starlark_rulebook.specs.Rules.{Finding, breaks, TooManyParameters}
+use Rattle.starlark_rulebook.specs.Calls.{any}
+use Rattle.starlark_rulebook.specs.Parameters.{is_starred, is_mark, is_slash, parameters_fault, parameter_fault, first_parameter_fault, first_slash, fault_if, parameter_places, member_count}
+use Rattle.starlark_rules.specs.ParameterKinds.{Param, param, params_before, params_of, mode_of, kind_of, positional_count, positional_only_count, args_index, kwargs_index, indices_of}
 use Rattle.starlark_rules.specs.Tallies.{tally_of, with_member, kind_in, param_of}
 use Rattle.starlark_rules.proofs.Converting.{none_first, none_second}
 use Rattle.starlark_rules.proofs.Prefixes.{count_members, members_more}

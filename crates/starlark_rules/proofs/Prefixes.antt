@@ -5,10 +5,10 @@ use Rattle.starlark_place.specs.Place.{merged_into}
 use Rattle.std.proofs.lemmas.List.Sums.{fold-append}
 use Rattle.starlark_ast.specs.Tree.{Member, Members, more, none}
 use Rattle.starlark_ast.specs.View.{members}
-use Rattle.starlark_rules.specs.Rules.{first_of}
-use Rattle.starlark_rules.specs.Calls.{any, first_call_fault, argument_fault}
-use Rattle.starlark_rules.specs.Targets.{targets_fault, member_fault}
-use Rattle.starlark_rules.specs.Parameters.{parameters_fault, parameter_fault, member_count, first_slash, slash_fault, unnamed_star, behind_star, ending_star, star_place, parameter_places, parameter_place}
+use Rattle.starlark_rulebook.specs.Rules.{first_of}
+use Rattle.starlark_rulebook.specs.Calls.{any, first_call_fault, argument_fault}
+use Rattle.starlark_rulebook.specs.Targets.{targets_fault, member_fault}
+use Rattle.starlark_rulebook.specs.Parameters.{parameters_fault, parameter_fault, member_count, first_slash, slash_fault, unnamed_star, behind_star, ending_star, star_place, parameter_places, parameter_place}
 
 -- the first fault of some members, each behind those before it
 abbrev pub first_fault : {A : Type 0} → (Members → Member → Option A) → Members → Option A

@@ -9,10 +9,10 @@ use Rattle.starlark_ast.specs.Tree.{Expr, Member, Members, Clause, Annotation, m
 use Rattle.starlark_ast.specs.declared.ast.ArgumentP.{ArgumentP, ArgumentP-F, fold_out-ArgumentP}
 use Rattle.starlark_ast.specs.declared.ast.ArgumentP.TheOpen as layer
 use Rattle.starlark_ast.specs.View.{members, argument_at, argument_step, target_step, clause_step, expr_step, parameter_step, call_args_step, fstring_step, for_clause_step, lambda_step, type_step}
-use Rattle.starlark_rules.specs.Rules.{Finding, first_of}
-use Rattle.starlark_rules.specs.Calls.{any, first_call_fault, argument_fault, is_other, is_star}
+use Rattle.starlark_rulebook.specs.Rules.{Finding, first_of}
+use Rattle.starlark_rulebook.specs.Calls.{any, first_call_fault, argument_fault, is_other, is_star}
 use Rattle.starlark_rules.specs.Unpacked.{is_positional, is_named, only, first_in}
-use Rattle.starlark_rules.specs.Parameters.{member_count}
+use Rattle.starlark_rulebook.specs.Parameters.{member_count}
 use Rattle.starlark_rules.proofs.Converting.{none_first, none_second}
 use Rattle.starlark_rules.proofs.Prefixes.{members_more, count_members}
 

@@ -22,7 +22,7 @@ use Rattle.starlark_ast.specs.declared.ast.LambdaP.{LambdaP}
 use Rattle.starlark_ast.specs.declared.ast.TypeExprP.{TypeExprP}
 use Rattle.starlark_ast.specs.declared.ast.ArgumentP.TheOpen as layer
 use Rattle.starlark_ast.specs.declared.ast.ArgumentP.TheVariants as argument
-use Rattle.starlark_rules.specs.Late as late
+use Rattle.starlark_rulebook.specs.Late as late
 use Rattle.starlark_rules.proofs.Prefixes.{members_more}
 use Rattle.starlark_rules.proofs.Sizes.{size, member_size, sizes, clause_size, clause_sizes}
 

@@ -7,8 +7,8 @@ use Rattle.starlark_ast.specs.View.{expr_at, assigned_view}
 use Rattle.starlark_ast.specs.Views.{items_of}
 use Rattle.starlark_rules.specs.declared.assign.Assignable.{Assignable}
 use Rattle.starlark_rules.specs.declared.assign.Assignable.TheVariants as form
-use Rattle.starlark_rules.specs.Rules.{InvalidLhs, breaks}
-use Rattle.starlark_rules.specs.Targets as targets
+use Rattle.starlark_rulebook.specs.Rules.{InvalidLhs, breaks}
+use Rattle.starlark_rulebook.specs.Targets as targets
 
 -- how many members are within it
 abbrev mutual

@@ -11,9 +11,9 @@ use Rattle.starlark_ast.specs.Tree as t
 use Rattle.starlark_ast.specs.Tree.{Name}
 use Rattle.starlark_ast.specs.View.{at}
 use Rattle.starlark_ast.specs.declared.ast.IdentP.{IdentP}
-use Rattle.starlark_rules.specs.Types.{Misfit, misfit, Path, path, Form, Forms, ellipsis_form, path_form, index_form, index2_form, list_form, union_form, tuple_form, no_forms, add_form}
-use Rattle.starlark_rules.specs.View.{type_fault_view}
-use Rattle.starlark_rules.specs.declared.rule.TypeExprUnpackError.{TypeExprUnpackError}
+use Rattle.starlark_rulebook.specs.Types.{Misfit, misfit, Path, path, Form, Forms, ellipsis_form, path_form, index_form, index2_form, list_form, union_form, tuple_form, no_forms, add_form}
+use Rattle.starlark_rulebook.specs.View.{type_fault_view}
+use Rattle.starlark_rulebook.specs.declared.rule.TypeExprUnpackError.{TypeExprUnpackError}
 use Rattle.starlark_rules.specs.declared.type_expr.TypePathP.{TypePathP}
 use Rattle.starlark_rules.specs.declared.type_expr.TypeExprUnpackP.{TypeExprUnpackP, TypeExprUnpackP-F, fold-TypeExprUnpackP}
 use Rattle.starlark_rules.specs.declared.type_expr.TypeExprUnpackP.TheOpen as layer

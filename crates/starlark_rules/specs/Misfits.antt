@@ -7,8 +7,8 @@ use Rattle.starlark_ast.specs.Tree as t
 use Rattle.starlark_ast.specs.Tree.{Expr, Members}
 use Rattle.starlark_ast.specs.Views.{items_of}
 use Rattle.starlark_rules.specs.Forms.{form_at}
-use Rattle.starlark_rules.specs.Types.{Misfit, misfit, Forms, no_forms, add_form}
-use Rattle.starlark_rules.specs.View.{type_fault_view}
+use Rattle.starlark_rulebook.specs.Types.{Misfit, misfit, Forms, no_forms, add_form}
+use Rattle.starlark_rulebook.specs.View.{type_fault_view}
 use Rattle.starlark_rules.specs.declared.types.Stop.{Stop}
 use Rattle.starlark_rules.specs.declared.types.Stop.TheVariants.{NoType, Memory}
 use Rattle.starlark_rules.specs.declared.type_expr.TypeExprUnpackP.{TypeExprUnpackP}

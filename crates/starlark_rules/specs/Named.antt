@@ -7,7 +7,7 @@ use Rattle.starlark_ast.specs.declared.ast.ExprP.{ExprP}
 use Rattle.starlark_ast.specs.declared.ast.TypeExprP.{TypeExprP}
 use Rattle.starlark_ast.specs.Tree.{Bound, absent, present, Annotation, untyped}
 use Rattle.starlark_ast.specs.View.{expr_at, ident_at, type_at}
-use Rattle.starlark_rules.specs.Parameters.{Kind, regular, args_kind, kwargs_kind, Param, param}
+use Rattle.starlark_rules.specs.ParameterKinds.{Kind, regular, args_kind, kwargs_kind, Param, param}
 use Rattle.starlark_rules.specs.declared.def.DefParam.{DefParam}
 use Rattle.starlark_rules.specs.declared.def.DefParamIndices.{DefParamIndices}
 use Rattle.starlark_rules.specs.declared.def.DefParamKind.{DefParamKind}

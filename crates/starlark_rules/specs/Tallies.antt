@@ -4,8 +4,9 @@ use Rattle.starlark_ast.specs.Tree as t
 use Rattle.starlark_ast.specs.Tree.{Stars, Bound, Member, Members}
 use Rattle.starlark_rules.specs.declared.def.DefRegularParamMode.{DefRegularParamMode}
 use Rattle.starlark_rules.specs.declared.def.Tally.{Tally}
-use Rattle.starlark_rules.specs.Calls.{any}
-use Rattle.starlark_rules.specs.Parameters.{Param, param, Kind, regular, args_kind, kwargs_kind, indices_of, params_of, is_starred}
+use Rattle.starlark_rulebook.specs.Calls.{any}
+use Rattle.starlark_rulebook.specs.Parameters.{is_starred}
+use Rattle.starlark_rules.specs.ParameterKinds.{Param, param, Kind, regular, args_kind, kwargs_kind, indices_of, params_of}
 
 -- that of some parameters
 abbrev pub tally_of : Members → Tally

@@ -9,7 +9,7 @@ use Rattle.starlark_ast.specs.declared.ast.ExprP.{ExprP}
 use Rattle.starlark_ast.specs.Tree as t
 use Rattle.starlark_ast.specs.Tree.{Expr, Member, Members}
 use Rattle.starlark_ast.specs.View.{argument_at, expr_at, members}
-use Rattle.starlark_rules.specs.Rules.{first_of}
+use Rattle.starlark_rulebook.specs.Rules.{first_of}
 use Rattle.starlark_rules.specs.declared.arguments.CallArgsUnpack.{CallArgsUnpack}
 
 abbrev pub is_positional : Member → Bool

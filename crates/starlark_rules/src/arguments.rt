@@ -2,15 +2,16 @@
 
 ghost use Rattle.std.specs.Prelude.{◌≡◌, ◌<◌, ◌-◌, None, IfOk, IfErr, count_by, if◌then◌else◌};
 ghost use Rattle.starlark_ast.specs.View.{argument_at, call_args_view, members};
-ghost use Rattle.starlark_rules.specs.Calls as calls;
+ghost use Rattle.starlark_rulebook.specs.Calls as calls;
 ghost use Rattle.starlark_rules.specs.Unpacked as unpacked;
 ghost use Rattle.starlark_rules.specs.Unpacked.{AreByKind, Unpacks, lent_expr};
-ghost use Rattle.starlark_rules.specs.View.{IsPlaced, RefusesFor};
+ghost use Rattle.starlark_rulebook.specs.View.{IsPlaced, RefusesFor};
 
 use crate::call::call_fault;
-use crate::rule::{RuleException, refused};
+use crate::finding::refused;
 use starlark_ast::ast::{ArgumentP, AstArgumentP, AstExprP, AstPayload, CallArgsP};
 use starlark_place::codemap::CodeMap;
+use starlark_rulebook::rule::RuleException;
 use std::alloc::Global;
 
 /// The arguments of a call, by their kinds.

@@ -6,10 +6,10 @@ ghost use Rattle.starlark_ast.specs.View.{boxed_type, expr_at, expr_view, ident_
 ghost use Rattle.starlark_place.specs.Place.{Extent};
 ghost use Rattle.starlark_rules.specs.Assignable.{IsAssignable};
 ghost use Rattle.starlark_ast.specs.Views.{items_of, targets_of};
-ghost use Rattle.starlark_rules.specs.Targets as targets;
-ghost use Rattle.starlark_rules.specs.View.{IsPlaced, RefusesFor, maybe_finding};
+ghost use Rattle.starlark_rulebook.specs.Targets as targets;
+ghost use Rattle.starlark_rulebook.specs.View.{IsPlaced, RefusesFor, maybe_finding};
 
-use crate::rule::{Rule, RuleException, broken_if, refused};
+use crate::finding::{broken_if, refused};
 use starlark_ast::ast::{
     AssignIdentP, AssignOp, AssignP, AssignTargetP, AstAssignIdent, AstAssignTarget, AstExpr,
     AstExprP, AstIdent, AstPayload, AstString, AstTypeExpr, AstTypeExprP, Expr, ExprP, IdentP,
@@ -18,6 +18,7 @@ use starlark_ast::ast::{
 use starlark_place::codemap::CodeMap;
 use starlark_place::diagnostic::Refusal;
 use starlark_place::pos::Spanned;
+use starlark_rulebook::rule::{Rule, RuleException};
 use std::alloc::{AllocError, Global};
 
 /// The expression as what is assigned to; lists become tuples. It is refused with `InvalidLhs` at the first member

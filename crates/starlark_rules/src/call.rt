@@ -2,12 +2,13 @@
 
 ghost use Rattle.std.specs.Prelude.{◌≡◌, true, if◌then◌else◌};
 ghost use Rattle.starlark_ast.specs.View.{argument_at, members};
-ghost use Rattle.starlark_rules.specs.Calls as calls;
-ghost use Rattle.starlark_rules.specs.View.{maybe_finding};
+ghost use Rattle.starlark_rulebook.specs.Calls as calls;
+ghost use Rattle.starlark_rulebook.specs.View.{maybe_finding};
 
-use crate::rule::{Rule, broken_if};
+use crate::finding::broken_if;
 use starlark_ast::ast::{ArgumentP, AstArgumentP, AstPayload};
 use starlark_place::pos::Spanned;
+use starlark_rulebook::rule::Rule;
 
 /// The first rule that the arguments of a call break, at its place. The rules stand in docs/LANGUAGE.md, Rules.
 pub fn call_fault<P: AstPayload>(args: &[AstArgumentP<P>]) -> Option<Spanned<Rule>>

@@ -3,20 +3,22 @@
 ghost use Rattle.std.specs.Prelude.{◌≡◌, ◌∷◌, [], ◌++◌, ◌<◌, ◌≤◌, ◌-◌, None, IfOk, IfErr, OnOk, count_by, length, map, nat_lt, true, if◌then◌else◌};
 ghost use Rattle.std.specs.Option.{unwrap_or};
 ghost use Rattle.starlark_ast.specs.View.{boxed_expr, boxed_type, members, parameter_at};
-ghost use Rattle.starlark_rules.specs.Parameters as parameters;
+ghost use Rattle.starlark_rulebook.specs.Parameters as parameters;
+ghost use Rattle.starlark_rules.specs.ParameterKinds as kinds;
 ghost use Rattle.starlark_rules.specs.Tallies.{param_of, with_member};
 ghost use Rattle.starlark_rules.specs.Named.{AreWithin, behind_args, lent_bound, lent_param, lent_params, lent_type};
-ghost use Rattle.starlark_rules.specs.View.{IsPlaced, RefusesFor};
+ghost use Rattle.starlark_rulebook.specs.View.{IsPlaced, RefusesFor};
 
 use crate::arguments::less_if;
+use crate::finding::refused;
 use crate::parameters::parameter_fault;
-use crate::rule::{RuleException, refused};
 use starlark_ast::ast::{
     AstAssignIdentP, AstExprP, AstParameterP, AstPayload, AstTypeExprP, ParameterP,
 };
 use starlark_place::codemap::CodeMap;
 use starlark_place::diagnostic::Refusal;
 use starlark_place::pos::{Span, Spanned};
+use starlark_rulebook::rule::RuleException;
 use std::alloc::{AllocError, Global};
 use std::ops::Range;
 
@@ -66,8 +68,8 @@ impl<'a, P: AstPayload> DefParams<'a, P> {
     ) -> Result<DefParams<'a, P>, RuleException>
         requires { IsPlaced codemap.now.source (parameters.first_parameter_fault (members parameter_at params.now)) }
         ensures clean { IfOk result (λ u. parameters.first_parameter_fault (members parameter_at params.now) ≡ None) }
-        ensures params { IfOk result (λ u. map lent_param u.params.items ≡ parameters.params_of (members parameter_at params.now)) }
-        ensures indices { IfOk result (λ u. u.indices ≡ parameters.indices_of (members parameter_at params.now)) }
+        ensures params { IfOk result (λ u. map lent_param u.params.items ≡ kinds.params_of (members parameter_at params.now)) }
+        ensures indices { IfOk result (λ u. u.indices ≡ kinds.indices_of (members parameter_at params.now)) }
         ensures ordered { IfOk result (λ u. u.indices.num_positional_only ≤ u.indices.num_positional) }
         ensures within { IfOk result (λ u. AreWithin u.indices (length u.params.items)) }
         ensures refused { IfErr result (RefusesFor (parameters.first_parameter_fault (members parameter_at params.now)) codemap.now) }
@@ -139,7 +141,7 @@ fn named_params<'a, P: AstPayload>(
     alloc: Global,
     params: &'a [AstParameterP<P>],
 ) -> Result<Vec<Spanned<DefParam<'a, P>>>, AllocError>
-    ensures { IfOk result (λ out. map lent_param out.items ≡ parameters.params_of (members parameter_at params.now)) }
+    ensures { IfOk result (λ out. map lent_param out.items ≡ kinds.params_of (members parameter_at params.now)) }
 {
     let mut out = Vec::new(alloc);
     let mut slashes = slash_count(params);
@@ -178,7 +180,7 @@ fn is_slash<P: AstPayload>(x: &AstParameterP<P>) -> bool
 
 /// Whether it is `*` or `*args`, or the flag is set.
 fn is_args_or<P: AstPayload>(x: &AstParameterP<P>, found: bool) -> bool
-    ensures { result ≡ (if parameters.is_args (parameter_at x.now) then true else found) }
+    ensures { result ≡ (if kinds.is_args (parameter_at x.now) then true else found) }
 {
     match &x.node {
         ParameterP::Slash => found,
@@ -297,7 +299,7 @@ fn slashes_behind<P: AstPayload>(slashes: usize, x: &AstParameterP<P>) -> usize
 /// The stretches of parameters.
 fn indices<P: AstPayload>(params: &[AstParameterP<P>]) -> DefParamIndices
     requires { length params.now ≤ 4294967295 }
-    ensures { result ≡ parameters.indices_of (members parameter_at params.now) }
+    ensures { result ≡ kinds.indices_of (members parameter_at params.now) }
 {
     let mut tally = Tally {
         indices: DefParamIndices {

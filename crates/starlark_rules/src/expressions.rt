@@ -3,18 +3,18 @@
 ghost use Rattle.std.specs.Prelude.{◌≡◌, ◌++◌, OnOk};
 ghost use Rattle.starlark_ast.specs.View.{argument_at, boxed_expr, boxed_type, clause_view, expr_at, for_clause_view, lambda_view, literal_view, members, parameter_at, target_at};
 ghost use Rattle.starlark_ast.specs.Views.{clauses_of, items_of, pairs_of};
-ghost use Rattle.starlark_rules.specs.Found.{Adds};
-ghost use Rattle.starlark_rules.specs.Late as late;
-ghost use Rattle.starlark_rules.specs.Types as types;
+ghost use Rattle.starlark_rulebook.specs.Found.{Adds};
+ghost use Rattle.starlark_rulebook.specs.Late as late;
+ghost use Rattle.starlark_rulebook.specs.Types as types;
 
 use crate::late::{add_unless, parameter_rules};
-use crate::rule::Rule;
 use starlark_ast::ast::{
     AssignTargetP, AstArgumentP, AstAssignTargetP, AstExprP, AstLiteral, AstParameterP, AstPayload,
     AstTypeExprP, ClauseP, ExprP, ForClauseP, LambdaP, ParameterP,
 };
 use starlark_lexer::dialect::{Dialect, DialectTypes};
 use starlark_place::pos::{Span, Spanned};
+use starlark_rulebook::rule::Rule;
 use std::alloc::AllocError;
 
 /// Adds what an expression and those within it break, parents first.

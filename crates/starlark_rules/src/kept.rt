@@ -3,18 +3,19 @@
 ghost use Rattle.std.specs.Prelude.{◌≡◌, ◌++◌};
 ghost use Rattle.starlark_ast.specs.StatementViews.{statements_of};
 ghost use Rattle.starlark_ast.specs.View.{boxed_type, expr_at, maybe_expr, maybe_type, members, parameter_at, stmt_at, symbols, target_at, text_at};
-ghost use Rattle.starlark_rules.specs.Kept as kept;
-ghost use Rattle.starlark_rules.specs.Rules.{first_finding};
-ghost use Rattle.starlark_rules.specs.View.{maybe_finding};
+ghost use Rattle.starlark_rulebook.specs.Kept as kept;
+ghost use Rattle.starlark_rulebook.specs.Rules.{first_finding};
+ghost use Rattle.starlark_rulebook.specs.View.{maybe_finding};
 
+use crate::finding::broken_if;
 use crate::kept_expressions::{expression_fault, parameters_fault, target_fault, type_fault};
-use crate::rule::{Rule, broken_if};
 use starlark_ast::ast::{
     AssignP, AstAssignTargetP, AstExprP, AstPayload, AstStmtP, AstTypeExprP, DefP, ForP, LoadP,
     StmtP,
 };
 use starlark_lexer::dialect::Dialect;
 use starlark_place::pos::Spanned;
+use starlark_rulebook::rule::Rule;
 
 /// The first that a tree breaks of the rules that are kept until all tokens are read, at its place: the first fault of
 /// a call's arguments, an f-string where they are off, a load that binds nothing. They stand in docs/LANGUAGE.md, Rules.

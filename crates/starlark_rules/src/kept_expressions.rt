@@ -4,19 +4,20 @@ ghost use Rattle.std.specs.Prelude.{◌≡◌, ◌++◌};
 ghost use Rattle.starlark_ast.specs.Tree as t;
 ghost use Rattle.starlark_ast.specs.View.{argument_at, boxed_expr, boxed_type, clause_view, expr_at, for_clause_view, lambda_view, members, parameter_at, target_at};
 ghost use Rattle.starlark_ast.specs.Views.{clauses_of, items_of, pairs_of, targets_of};
-ghost use Rattle.starlark_rules.specs.Calls.{first_call_fault};
-ghost use Rattle.starlark_rules.specs.Kept as kept;
-ghost use Rattle.starlark_rules.specs.Rules.{first_finding, listed};
-ghost use Rattle.starlark_rules.specs.View.{maybe_finding};
+ghost use Rattle.starlark_rulebook.specs.Calls.{first_call_fault};
+ghost use Rattle.starlark_rulebook.specs.Kept as kept;
+ghost use Rattle.starlark_rulebook.specs.Rules.{first_finding, listed};
+ghost use Rattle.starlark_rulebook.specs.View.{maybe_finding};
 
 use crate::call::call_fault;
-use crate::rule::{Rule, broken_if};
+use crate::finding::broken_if;
 use starlark_ast::ast::{
     AssignTargetP, AstArgumentP, AstAssignTargetP, AstExprP, AstFStringP, AstParameterP,
     AstPayload, AstTypeExprP, ClauseP, ExprP, ForClauseP, LambdaP, ParameterP,
 };
 use starlark_lexer::dialect::Dialect;
 use starlark_place::pos::{Span, Spanned};
+use starlark_rulebook::rule::Rule;
 
 /// The first rule that an expression breaks, with those within it.
 #[cycle(kept)]

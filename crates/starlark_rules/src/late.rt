@@ -2,17 +2,17 @@
 
 ghost use Rattle.std.specs.Prelude.{◌≡◌, ◌∷◌, [], OnOk, if◌then◌else◌};
 ghost use Rattle.starlark_ast.specs.View.{members, parameter_at, stmt_at};
-ghost use Rattle.starlark_rules.specs.Found.{Adds};
-ghost use Rattle.starlark_rules.specs.Late as late;
-ghost use Rattle.starlark_rules.specs.Rules.{breaks, listed};
+ghost use Rattle.starlark_rulebook.specs.Found.{Adds};
+ghost use Rattle.starlark_rulebook.specs.Late as late;
+ghost use Rattle.starlark_rulebook.specs.Rules.{breaks, listed};
 ghost use Rattle.starlark_rules.specs.Standings.{standing_of};
-ghost use Rattle.starlark_rules.specs.View.{maybe_finding, rule_view};
+ghost use Rattle.starlark_rulebook.specs.View.{maybe_finding, rule_view};
 
 use crate::parameters::parameter_fault;
-use crate::rule::Rule;
 use starlark_ast::ast::{AstParameterP, AstPayload, AstStmtP, ParameterP, StmtP};
 use starlark_lexer::dialect::Dialect;
 use starlark_place::pos::{Span, Spanned};
+use starlark_rulebook::rule::Rule;
 use std::alloc::AllocError;
 
 /// Where a statement stands.

@@ -6,11 +6,13 @@ pub mod assign;
 pub mod call;
 pub mod def;
 mod expressions;
+mod finding;
 pub mod kept;
 mod kept_expressions;
 mod late;
 pub mod parameters;
-pub mod rule;
 pub mod tree;
 pub mod type_expr;
 pub mod types;
+
+pub use starlark_rulebook::rule;

@@ -3,14 +3,15 @@
 ghost use Rattle.std.specs.Prelude.{◌≡◌, ◌&&◌, nat_lt, not, true, if◌then◌else◌, string_bytes};
 ghost use Rattle.starlark_place.specs.Place.{merged_all, merged_into};
 ghost use Rattle.starlark_ast.specs.View.{boxed_expr, members, parameter_at};
-ghost use Rattle.starlark_rules.specs.Rules.{breaks, first_of as first, TooManyParameters};
-ghost use Rattle.starlark_rules.specs.Calls.{any};
-ghost use Rattle.starlark_rules.specs.Parameters as parameters;
-ghost use Rattle.starlark_rules.specs.View.{maybe_finding};
+ghost use Rattle.starlark_rulebook.specs.Rules.{breaks, first_of as first, TooManyParameters};
+ghost use Rattle.starlark_rulebook.specs.Calls.{any};
+ghost use Rattle.starlark_rulebook.specs.Parameters as parameters;
+ghost use Rattle.starlark_rulebook.specs.View.{maybe_finding};
 
-use crate::rule::{Rule, broken_if};
+use crate::finding::broken_if;
 use starlark_ast::ast::{AstAssignIdentP, AstExprP, AstParameterP, AstPayload, ParameterP};
 use starlark_place::pos::{Pos, Span, Spanned};
+use starlark_rulebook::rule::Rule;
 
 /// The first rule that the parameters of a `def` or a lambda break, at its place. The rules stand in docs/LANGUAGE.md,
 /// Rules.

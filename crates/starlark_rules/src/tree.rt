@@ -2,15 +2,15 @@
 
 ghost use Rattle.std.specs.Prelude.{◌≡◌, ◌++◌, IfOk, OnOk};
 ghost use Rattle.starlark_ast.specs.View.{expr_at, maybe_expr, maybe_type, stmt_at, target_at};
-ghost use Rattle.starlark_rules.specs.Found.{Adds, findings};
-ghost use Rattle.starlark_rules.specs.Late as late;
+ghost use Rattle.starlark_rulebook.specs.Found.{Adds, findings};
+ghost use Rattle.starlark_rulebook.specs.Late as late;
 
 use crate::expressions::{default_rules, expression_rules, target_rules, type_rules};
 use crate::late::{Standing, statement_rules};
-use crate::rule::Rule;
 use starlark_ast::ast::{AssignP, AstExprP, AstPayload, AstStmtP, AstTypeExprP, StmtP};
 use starlark_lexer::dialect::Dialect;
 use starlark_place::pos::Spanned;
+use starlark_rulebook::rule::Rule;
 use std::alloc::{AllocError, Global};
 
 /// The rules that count last, each at its place: what the statements of a tree break, each before those within it, and

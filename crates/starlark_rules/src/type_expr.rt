@@ -3,16 +3,16 @@
 ghost use Rattle.std.specs.Prelude.{◌≡◌, IfOk, IfErr, Ok};
 ghost use Rattle.starlark_ast.specs.View.{expr_at};
 ghost use Rattle.starlark_rules.specs.Forms.{RefusesType, form_at};
-ghost use Rattle.starlark_rules.specs.Types as types;
-ghost use Rattle.starlark_rules.specs.View.{IsPlaced};
+ghost use Rattle.starlark_rulebook.specs.Types as types;
+ghost use Rattle.starlark_rulebook.specs.View.{IsPlaced};
 ghost use Rattle.starlark_rules.specs.Wildcards.{is_wildcard};
 
-use crate::rule::TypeExprUnpackError;
 use crate::types::{Stop, type_parts};
 use starlark_ast::ast::{AstExprP, AstIdentP, AstPayload};
 use starlark_place::codemap::CodeMap;
 use starlark_place::diagnostic::Refusal;
 use starlark_place::pos::Spanned;
+use starlark_rulebook::rule::TypeExprUnpackError;
 use std::alloc::Global;
 
 /// An identifier, or identifiers joined by dots.

@@ -7,15 +7,15 @@ ghost use Rattle.starlark_ast.specs.View.{expr_at, literal_view};
 ghost use Rattle.starlark_ast.specs.Views.{items_of};
 ghost use Rattle.starlark_rules.specs.Forms.{attribute, form_at, form_view, path_view, read_at};
 ghost use Rattle.starlark_rules.specs.Misfits.{Comes, forms_view, lent_members, list_members, path_text, stop_for};
-ghost use Rattle.starlark_rules.specs.Rules as rules;
-ghost use Rattle.starlark_rules.specs.Types as types;
-ghost use Rattle.starlark_rules.specs.View.{maybe_finding};
+ghost use Rattle.starlark_rulebook.specs.Rules as rules;
+ghost use Rattle.starlark_rulebook.specs.Types as types;
+ghost use Rattle.starlark_rulebook.specs.View.{maybe_finding};
 
 use crate::def::push_at;
-use crate::rule::{Rule, TypeExprUnpackError};
 use crate::type_expr::{TypeExprUnpackP, TypePathP};
 use starlark_ast::ast::{AstExprP, AstIdentP, AstLiteral, AstPayload, AstString, BinOp, ExprP};
 use starlark_place::pos::{Span, Spanned};
+use starlark_rulebook::rule::{Rule, TypeExprUnpackError};
 use std::alloc::{AllocError, Global};
 
 /// The first rule that an expression breaks as a type, at its place. The rules stand in docs/LANGUAGE.md, Rules.

@@ -8,7 +8,7 @@ use Rattle.starlark_place.specs.declared.resolved.ResolvedFileSpan.{ResolvedFile
 use Rattle.starlark_lexer.specs.declared.dialect.Dialect.{Dialect}
 use Rattle.starlark_ast.specs.Tree.{Statement}
 use Rattle.starlark_parser.specs.Faults.{reason}
-use Rattle.starlark_parser.specs.Language.{Fault, IsRefused, Language, place_of}
+use Rattle.starlark_grammar.specs.Language.{Fault, IsRefused, Language, place_of}
 use Rattle.starlark_parser.specs.declared.fault.ParserError.{ParserError}
 use Rattle.starlark_parts.specs.Edits.{IsAddressed, Refuses, Takes, Tells, index, utf8, long, parse, not_closed, memory}
 use Rattle.starlark_parts.specs.Kept.{Edit, edited, joined, text_of}

@@ -5,7 +5,7 @@ use Rattle.std.specs.List.{All, insert, remove}
 use Rattle.starlark_place.specs.Place.{line_feeds}
 use Rattle.starlark_lexer.specs.declared.dialect.Dialect.{Dialect}
 use Rattle.starlark_ast.specs.Tree.{Statement}
-use Rattle.starlark_parser.specs.Language.{Language}
+use Rattle.starlark_grammar.specs.Language.{Language}
 use Rattle.starlark_parts.specs.Edits.{Answers, IsPartText, Takes}
 use Rattle.starlark_parts.specs.Flat.{AreWorded}
 use Rattle.starlark_parts.specs.Kept.{Edit, Kept, edited, inserts, replaces, removes, moves, text_of}

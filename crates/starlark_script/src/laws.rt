@@ -9,7 +9,7 @@ ghost use Rattle.starlark_parts.specs.declared.fault.PartFault.{PartFault};
 ghost use Rattle.starlark_parts.specs.declared.word.OutlineItem.{OutlineItem};
 ghost use Rattle.starlark_script.specs.Laws.{SayTheSame};
 
-use starlark_parser::text_laws::{one_refusal, one_tree};
+use starlark_grammar::text_laws::{one_refusal, one_tree};
 
 /// Texts one behind another have one outline at most.
 pub fn one_outline()

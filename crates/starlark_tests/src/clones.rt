@@ -2,6 +2,7 @@
 
 use crate::common::{parsed, same};
 use starlark_ast::ast::{ExprP, StmtP};
+use starlark_clone::clone_tree::CloneTree;
 use std::alloc::AllocError;
 use std::test::Fail;
 

@@ -3,7 +3,10 @@
 
 use crate::common::parsed;
 use starlark_parser::ast::ast::{AstAssignIdent, AstExpr, AstIdent, AstStmt, ExprP, StmtP};
-use starlark_parser::ast::nodes::Visit;
+use starlark_visit::idents::VisitIdent;
+use starlark_visit::nodes::{Visit, VisitChildren};
+use starlark_visit::visit::{VisitExpr, VisitLvalue};
+use starlark_visit::walk::VisitStmt;
 use std::alloc::AllocError;
 use std::test::Fail;
 

@@ -14,7 +14,7 @@ use Rattle.starlark_ast.specs.declared.ast.StmtP.{StmtP, StmtP-F, out-StmtP, rol
 use Rattle.starlark_ast.specs.declared.ast.TypeExprP.{TypeExprP}
 use Rattle.starlark_ast.specs.declared.ast.StmtP.TheOpen as layer
 use Rattle.starlark_ast.specs.declared.ast.StmtP.TheVariants as stmt
-use Rattle.starlark_ast.proofs.Below.{HoldsNone, inner-Statements, inner-If, inner-IfElse, inner-For, inner-Def, inner-none}
+use Rattle.starlark_visit.proofs.Below.{HoldsNone, inner-Statements, inner-If, inner-IfElse, inner-For, inner-Def, inner-none}
 use Rattle.starlark_ast.proofs.Tops.{count, count_def, count_for, count_step}
 use Rattle.starlark_write.specs.Beside as parts
 use Rattle.starlark_write.specs.Beside.{AtPlace, KeepsMaybeType}

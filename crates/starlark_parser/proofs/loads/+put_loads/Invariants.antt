@@ -2,7 +2,7 @@ use Rattle.std.proofs.Common.{◌≡◌, ◌++◌, flat_map, map, take}
 use Rattle.starlark_ast.specs.View.{stmt_at}
 use Rattle.starlark_parser.specs.Loaded.{loads_in}
 use Rattle.starlark_parser.specs.Shown.{loaded}
-use Rattle.starlark_parser.proofs.Variants.{count}
+use Rattle.starlark_grammar.proofs.Variants.{count}
 use Rattle.starlark_parser.proofs.loads.+put_loads.Given as goal
 
 abbrev pub decreases-put_loads : goal.decreases-put_loads

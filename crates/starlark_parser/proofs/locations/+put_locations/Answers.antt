@@ -5,7 +5,7 @@ use Rattle.starlark_place.specs.Place.{Holds, file_place}
 use Rattle.starlark_ast.specs.View.{stmt_at}
 use Rattle.starlark_parser.specs.Locations.{locations}
 use Rattle.starlark_parser.proofs.Located.{all_of, behind, both, def_body, either_first, either_second, for_body, if_body, one_of, own_place}
-use Rattle.starlark_parser.proofs.Variants.{of_def, of_either, of_for, of_if}
+use Rattle.starlark_grammar.proofs.Variants.{of_def, of_either, of_for, of_if}
 use Rattle.starlark_parser.proofs.locations.+put_locations.Goals as goal
 
 pub put_locations-requires : goal.put_locations-requires

@@ -2,7 +2,7 @@ use Rattle.std.proofs.Common.{◌≡◌, ◌++◌, flat_map, map, take}
 use Rattle.starlark_place.specs.Place.{file_place}
 use Rattle.starlark_ast.specs.View.{stmt_at}
 use Rattle.starlark_parser.specs.Locations.{locations}
-use Rattle.starlark_parser.proofs.Variants.{count}
+use Rattle.starlark_grammar.proofs.Variants.{count}
 use Rattle.starlark_parser.proofs.locations.+put_locations.Given as goal
 
 abbrev pub decreases-put_locations : goal.decreases-put_locations

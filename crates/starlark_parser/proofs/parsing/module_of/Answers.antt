@@ -1,9 +1,9 @@
 use Rattle.std.proofs.Common.{rules, ap, subst, ◌∙◌}
 use Rattle.std.specs.Str.{IsCharBoundary}
 use Rattle.starlark_ast.specs.View.{stmt_at}
-use Rattle.starlark_parser.specs.Comments.{AreHeld}
-use Rattle.starlark_parser.specs.Ends.{StatementAt}
-use Rattle.starlark_parser.specs.Refused.{fault_of}
+use Rattle.starlark_grammar.specs.Comments.{AreHeld}
+use Rattle.starlark_grammar.specs.Ends.{StatementAt}
+use Rattle.starlark_read.specs.Refused.{fault_of}
 use Rattle.starlark_parser.proofs.Costing.{refused_cost, whole_cost}
 use Rattle.starlark_parser.proofs.Faulting.{fault_told, fault_held}
 use Rattle.starlark_parser.proofs.parsing.module_of.Goals as goal

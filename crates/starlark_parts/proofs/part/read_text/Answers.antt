@@ -1,7 +1,7 @@
 use Rattle.std.proofs.Common.{◌≡◌, subst}
 use Rattle.std.specs.Prelude.{IfOk, Result, string_bytes}
 use Rattle.starlark_parser.specs.Costs.{Costs, IsWhole}
-use Rattle.starlark_parser.specs.Language.{Language}
+use Rattle.starlark_grammar.specs.Language.{Language}
 use Rattle.starlark_parser.specs.Modules.{file_of, tree_of}
 use Rattle.starlark_parser.specs.declared.fault.EvalException.{EvalException}
 use Rattle.starlark_parser.specs.declared.module.AstModule.{AstModule}

@@ -1,7 +1,7 @@
 use Rattle.std.proofs.Common.{◌≡◌, ◌++◌, ◌∙◌, sym, ap, append_assoc, arith}
 use Rattle.starlark_ast.specs.View.{argument_at, members}
-use Rattle.starlark_rules.specs.Calls.{is_star}
-use Rattle.starlark_rules.specs.Parameters.{member_count}
+use Rattle.starlark_rulebook.specs.Calls.{is_star}
+use Rattle.starlark_rulebook.specs.Parameters.{member_count}
 use Rattle.starlark_rules.specs.Unpacked.{only, is_positional, is_named}
 use Rattle.starlark_rules.proofs.Prefixes.{count_members}
 use Rattle.starlark_rules.proofs.Unpacking.{join, are_arguments, in_order, cut, count_join, count_only, only_fewer}

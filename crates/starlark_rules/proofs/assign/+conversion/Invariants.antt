@@ -2,7 +2,7 @@ use Rattle.std.proofs.Common.{◌≡◌, ◌++◌, List, length, reverse}
 use Rattle.starlark_ast.specs.View.{expr_at}
 use Rattle.starlark_ast.specs.Views.{items_of, targets_of}
 use Rattle.starlark_rules.specs.Assignable.{weight, weights}
-use Rattle.starlark_rules.specs.Targets as targets
+use Rattle.starlark_rulebook.specs.Targets as targets
 use Rattle.starlark_rules.proofs.assign.+conversion.Given as goal
 
 abbrev pub decreases-target : goal.decreases-target

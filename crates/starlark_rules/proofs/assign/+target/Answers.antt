@@ -2,8 +2,8 @@ use Rattle.std.proofs.Common.{◌∙◌, ◌+◌, sym, ap, take}
 use Rattle.starlark_ast.specs.Tree as t
 use Rattle.starlark_ast.specs.View.{expr_at, expr_view}
 use Rattle.starlark_ast.specs.Views.{items_of, expr_view-Tuple, expr_view-List}
-use Rattle.starlark_rules.specs.Targets as targets
-use Rattle.starlark_rules.specs.View.{maybe_finding, finding_of}
+use Rattle.starlark_rulebook.specs.Targets as targets
+use Rattle.starlark_rulebook.specs.View.{maybe_finding, finding_of}
 use Rattle.starlark_rules.proofs.Prefixes.{target_faults, still_clean, found_first}
 use Rattle.starlark_rules.proofs.assign.+target.Goals as goal
 

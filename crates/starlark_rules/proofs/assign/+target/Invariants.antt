@@ -1,6 +1,6 @@
 use Rattle.std.proofs.Common.{◌≡◌, ◌+◌, ◌*◌, take, None}
 use Rattle.starlark_ast.specs.Views.{items_of}
-use Rattle.starlark_rules.specs.Targets as targets
+use Rattle.starlark_rulebook.specs.Targets as targets
 use Rattle.starlark_rules.proofs.assign.+target.Given as goal
 
 abbrev pub decreases-target_fault : goal.decreases-target_fault

@@ -2,9 +2,9 @@ use Rattle.std.proofs.Common.{◌∙◌, sym, ap, cond, Bool, None, Some, Option
 use Rattle.starlark_place.specs.Place.{Extent}
 use Rattle.starlark_ast.specs.View.{argument_at, argument_view, members}
 use Rattle.starlark_ast.specs.Views.{argument_view-Positional, argument_view-Named, argument_view-Args, argument_view-KwArgs}
-use Rattle.starlark_rules.specs.Calls as calls
-use Rattle.starlark_rules.specs.Rules as r
-use Rattle.starlark_rules.specs.Rules.{breaks, Finding, Rule}
+use Rattle.starlark_rulebook.specs.Calls as calls
+use Rattle.starlark_rulebook.specs.Rules as r
+use Rattle.starlark_rulebook.specs.Rules.{breaks, Finding, Rule}
 use Rattle.starlark_rules.proofs.call.argument_fault.Goals as goal
 
 -- a rule that is broken where the flag is set

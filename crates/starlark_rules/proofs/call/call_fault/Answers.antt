@@ -1,7 +1,7 @@
 use Rattle.std.proofs.Common.{◌∙◌, ◌+◌, sym, ap, true, cond, take}
 use Rattle.starlark_ast.specs.View.{argument_at, members}
-use Rattle.starlark_rules.specs.Calls as calls
-use Rattle.starlark_rules.specs.View.{maybe_finding, finding_of}
+use Rattle.starlark_rulebook.specs.Calls as calls
+use Rattle.starlark_rulebook.specs.View.{maybe_finding, finding_of}
 use Rattle.starlark_rules.proofs.Prefixes.{any_more, call_faults, still_clean, found_first}
 use Rattle.starlark_rules.proofs.call.call_fault.Goals as goal
 

@@ -1,6 +1,6 @@
 use Rattle.std.proofs.Common.{◌∙◌, sym, ap, true, cond}
 use Rattle.starlark_ast.specs.View.{argument_at}
-use Rattle.starlark_rules.specs.Calls as calls
+use Rattle.starlark_rulebook.specs.Calls as calls
 use Rattle.starlark_rules.proofs.Prefixes.{any_more}
 use Rattle.starlark_rules.proofs.call.is_named.Goals as goal
 

@@ -1,6 +1,6 @@
 use Rattle.std.proofs.Common.{◌≡◌, take}
 use Rattle.starlark_ast.specs.View.{argument_at, members}
-use Rattle.starlark_rules.specs.Calls as calls
+use Rattle.starlark_rulebook.specs.Calls as calls
 use Rattle.starlark_rules.proofs.call.is_named.Given as goal
 
 abbrev pub invariant-loop-x : goal.invariant-loop-x

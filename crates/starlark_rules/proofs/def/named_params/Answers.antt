@@ -2,7 +2,8 @@ use Rattle.std.proofs.Common.{◌≡◌, ◌∙◌, ◌++◌, sym, ap, cond, tak
 use Rattle.starlark_ast.specs.View.{parameter_at, members}
 use Rattle.starlark_rules.specs.declared.def.DefRegularParamMode.{DefRegularParamMode}
 use Rattle.starlark_rules.specs.declared.def.DefRegularParamMode.TheVariants.{PosOnly, PosOrName, NameOnly}
-use Rattle.starlark_rules.specs.Parameters as parameters
+use Rattle.starlark_rulebook.specs.Parameters as parameters
+use Rattle.starlark_rules.specs.ParameterKinds as kinds
 use Rattle.starlark_rules.specs.Tallies.{param_of}
 use Rattle.starlark_rules.proofs.ParameterLists.{slash_left, slash_next, slashes_end, params_next, params_end}
 use Rattle.starlark_rules.proofs.Prefixes.{any_more}
@@ -20,14 +21,14 @@ loop-x-preserved g c =
     let n = c.loop-x.slashes in
     let ms = members parameter_at (take i xs) in
     let some = slash_left (λ x. parameters.is_slash (parameter_at x)) xs i x n c.loop-x-test.true c.x-item.is c.loop-x.invariant.left in
-    let mode : c.mode.result ≡ parameters.mode_of (nat_lt 0 n) ms = c.mode.ensures ∙ ap (λ (a : Bool). cond (nat_lt 0 n) PosOnly (cond a NameOnly PosOrName)) c.loop-x.invariant.behind in
+    let mode : c.mode.result ≡ kinds.mode_of (nat_lt 0 n) ms = c.mode.ensures ∙ ap (λ (a : Bool). cond (nat_lt 0 n) PosOnly (cond a NameOnly PosOrName)) c.loop-x.invariant.behind in
     record {
       made = c.in_ok-add_param.ensures
-          ∙ ap (λ (ps : List parameters.Param). ps ++ param_of c.mode.result (parameter_at x)) c.loop-x.invariant.made
-          ∙ ap (λ (y : DefRegularParamMode). parameters.params_before (nat_lt 0 n) ms ++ param_of y (parameter_at x)) mode
+          ∙ ap (λ (ps : List kinds.Param). ps ++ param_of c.mode.result (parameter_at x)) c.loop-x.invariant.made
+          ∙ ap (λ (y : DefRegularParamMode). kinds.params_before (nat_lt 0 n) ms ++ param_of y (parameter_at x)) mode
           ∙ sym (params_next parameter_at xs i x n c.slashes_behind-slashes.result c.loop-x-test.true c.x-item.is some c.slashes_behind-slashes.ensures);
       left = slash_next (λ x. parameters.is_slash (parameter_at x)) xs i x n c.slashes_behind-slashes.result c.loop-x-test.true c.x-item.is c.loop-x.invariant.left c.slashes_behind-slashes.ensures;
-      behind = c.is_args_or-behind_args.ensures ∙ ap (λ (b : Bool). cond (parameters.is_args (parameter_at x)) true b) c.loop-x.invariant.behind ∙ sym (any_more parameters.is_args parameter_at xs i x c.loop-x-test.true c.x-item.is);
+      behind = c.is_args_or-behind_args.ensures ∙ ap (λ (b : Bool). cond (kinds.is_args (parameter_at x)) true b) c.loop-x.invariant.behind ∙ sym (any_more kinds.is_args parameter_at xs i x c.loop-x-test.true c.x-item.is);
     }
 
 pub returns : goal.returns

@@ -1,6 +1,6 @@
 use Rattle.std.proofs.Common.{◌≡◌, ◌∙◌, ap, cond, not, length, ◌-◌, ℕ, arith}
 use Rattle.starlark_ast.specs.View.{parameter_at}
-use Rattle.starlark_rules.specs.Parameters as parameters
+use Rattle.starlark_rulebook.specs.Parameters as parameters
 use Rattle.starlark_rules.proofs.Unpacking.{left_more, left_none, unset}
 use Rattle.starlark_rules.proofs.def.slash_count.Goals as goal
 

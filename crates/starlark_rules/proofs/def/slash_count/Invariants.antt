@@ -1,6 +1,6 @@
 use Rattle.std.proofs.Common.{◌≡◌, ◌+◌, ◌-◌, take, length, count_by}
 use Rattle.starlark_ast.specs.View.{parameter_at}
-use Rattle.starlark_rules.specs.Parameters as parameters
+use Rattle.starlark_rulebook.specs.Parameters as parameters
 use Rattle.starlark_rules.proofs.def.slash_count.Given as goal
 
 abbrev pub invariant-loop-x : goal.invariant-loop-x

@@ -3,8 +3,8 @@ use Rattle.std.proofs.Math.Seq.{take-length}
 use Rattle.starlark_ast.specs.Tree as tree
 use Rattle.starlark_ast.specs.View.{argument_at, boxed_expr, clause_view, expr_at, expr_view, for_clause_view, members, parameter_at, target_at, target_view}
 use Rattle.starlark_ast.specs.Views.{clauses_of, items_of, pairs_of, targets_of, expr_view-Tuple, expr_view-Call, expr_view-Index2, expr_view-Slice, expr_view-If, expr_view-List, expr_view-Dict, expr_view-ListComprehension, expr_view-DictComprehension, expr_view-FString, target_view-Tuple, view-args, view-fstring, view-lambda}
-use Rattle.starlark_rules.specs.Late as late
-use Rattle.starlark_rules.specs.Rules.{LambdaDisabled}
+use Rattle.starlark_rulebook.specs.Late as late
+use Rattle.starlark_rulebook.specs.Rules.{LambdaDisabled}
 use Rattle.starlark_rules.proofs.Adding.{adds_as, adds_then, ok_as, ok_then}
 use Rattle.starlark_rules.proofs.Sizes.{size, sizes, clause_sizes}
 use Rattle.starlark_rules.proofs.Within.{argument_breaks, argument_size, clause_breaks, clause_is_less, member_breaks, member_is_less, more_clauses}

@@ -1,8 +1,8 @@
 use Rattle.std.proofs.Common.{suc, ◌+◌, take}
 use Rattle.starlark_ast.specs.View.{argument_at, boxed_expr, boxed_type, clause_view, expr_at, for_clause_view, members, parameter_at, target_at}
 use Rattle.starlark_ast.specs.Views.{clauses_of, items_of, pairs_of, targets_of}
-use Rattle.starlark_rules.specs.Found.{Adds}
-use Rattle.starlark_rules.specs.Late as late
+use Rattle.starlark_rulebook.specs.Found.{Adds}
+use Rattle.starlark_rulebook.specs.Late as late
 use Rattle.starlark_rules.proofs.Sizes.{size, sizes, member_size, bound_size, annotation_size, clause_size, clause_sizes}
 use Rattle.starlark_rules.proofs.expressions.+pass.Given as goal
 

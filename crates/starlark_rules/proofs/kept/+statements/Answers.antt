@@ -3,9 +3,9 @@ use Rattle.std.proofs.Math.Seq.{take-length}
 use Rattle.std.proofs.lemmas.List.{append-nil}
 use Rattle.starlark_ast.specs.StatementViews.{statements_of, stmt_view-AssignModify, stmt_view-If, stmt_view-IfElse, stmt_view-For, stmt_view-Def, stmt_view-Statements, view-def, view-for}
 use Rattle.starlark_ast.specs.View.{stmt_at, stmt_view, members, parameter_at, expr_at, target_at}
-use Rattle.starlark_rules.specs.Kept as kept
-use Rattle.starlark_rules.specs.Rules.{first_finding}
-use Rattle.starlark_rules.specs.View.{finding_of}
+use Rattle.starlark_rulebook.specs.Kept as kept
+use Rattle.starlark_rulebook.specs.Rules.{first_finding}
+use Rattle.starlark_rulebook.specs.View.{finding_of}
 use Rattle.starlark_rules.proofs.Firsts.{at_statement, given, past, past_statement, stays}
 use Rattle.starlark_rules.proofs.Nodes.{nodes, all_nodes, nodes_of_one}
 use Rattle.starlark_rules.proofs.kept.+statements.Goals as goal

@@ -1,8 +1,8 @@
 use Rattle.std.proofs.Common.{◌+◌, ◌*◌, ◌≡◌, None, take}
 use Rattle.starlark_ast.specs.StatementViews.{statements_of}
 use Rattle.starlark_ast.specs.View.{stmt_at}
-use Rattle.starlark_rules.specs.Kept as kept
-use Rattle.starlark_rules.specs.Rules.{first_finding}
+use Rattle.starlark_rulebook.specs.Kept as kept
+use Rattle.starlark_rulebook.specs.Rules.{first_finding}
 use Rattle.starlark_rules.proofs.Nodes.{nodes, all_nodes}
 use Rattle.starlark_rules.proofs.kept.+statements.Given as goal
 

@@ -3,8 +3,8 @@ use Rattle.starlark_place.specs.Place.{Extent}
 use Rattle.starlark_ast.specs.Tree as tree
 use Rattle.starlark_ast.specs.View.{comma_at, ident_at, symbols, text_at}
 use Rattle.starlark_ast.specs.declared.ast.LoadArgP.{LoadArgP}
-use Rattle.starlark_rules.specs.Kept as kept
-use Rattle.starlark_rules.specs.Rules.{LoadRequiresTwo, breaks, first_finding}
+use Rattle.starlark_rulebook.specs.Kept as kept
+use Rattle.starlark_rulebook.specs.Rules.{LoadRequiresTwo, breaks, first_finding}
 use Rattle.starlark_rules.proofs.kept.load_fault.Goals as goal
 
 module _ {P L I A D T : Type 0} where

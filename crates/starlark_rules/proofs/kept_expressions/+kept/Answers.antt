@@ -2,10 +2,10 @@ use Rattle.std.proofs.Common.{◌∙◌, ◌++◌, sym, ap, append_assoc, arith}
 use Rattle.starlark_ast.specs.Tree as tree
 use Rattle.starlark_ast.specs.View.{argument_at, clause_view, expr_at, expr_view, for_clause_view, members, parameter_at, target_at, target_view}
 use Rattle.starlark_ast.specs.Views.{clauses_of, items_of, pairs_of, targets_of, expr_view-Tuple, expr_view-Call, expr_view-Index2, expr_view-Lambda, expr_view-List, expr_view-Dict, expr_view-ListComprehension, expr_view-DictComprehension, expr_view-FString, target_view-Tuple, view-args, view-fstring, view-lambda}
-use Rattle.starlark_rules.specs.Calls.{first_call_fault}
-use Rattle.starlark_rules.specs.Kept as kept
-use Rattle.starlark_rules.specs.Rules.{first_finding, listed}
-use Rattle.starlark_rules.specs.View.{finding_of}
+use Rattle.starlark_rulebook.specs.Calls.{first_call_fault}
+use Rattle.starlark_rulebook.specs.Kept as kept
+use Rattle.starlark_rulebook.specs.Rules.{first_finding, listed}
+use Rattle.starlark_rulebook.specs.View.{finding_of}
 use Rattle.starlark_rules.proofs.Firsts.{argument_keeps, at_clause, at_front, at_member, first_listed, given, past, past_clause, past_member, stays}
 use Rattle.starlark_rules.proofs.Sizes.{size, sizes, clause_sizes}
 use Rattle.starlark_rules.proofs.Within.{argument_size, clause_is_less, member_is_less, more_clauses}

@@ -1,9 +1,9 @@
 use Rattle.std.proofs.Common.{◌∙◌, ◌≡◌, ◌≤◌, ◌++◌, ◌∷◌, [], suc, sym, ap, subst, cond, take, length, true, arith, rules}
-use Rattle.starlark_rules.specs.Rules.{breaks, IfOutsideDef, DefDisabled}
+use Rattle.starlark_rulebook.specs.Rules.{breaks, IfOutsideDef, DefDisabled}
 use Rattle.std.proofs.Math.Seq.{take-length}
 use Rattle.starlark_ast.specs.StatementViews.{statements_of, stmt_view-Load, stmt_view-IfElse, stmt_view-Def, stmt_view-Statements, view-def}
 use Rattle.starlark_ast.specs.View.{stmt_at, stmt_view, members, parameter_at}
-use Rattle.starlark_rules.specs.Late as late
+use Rattle.starlark_rulebook.specs.Late as late
 use Rattle.starlark_rules.specs.Standings.{standing_of}
 use Rattle.starlark_rules.proofs.Nodes.{nodes, all_nodes, nodes_of_one}
 use Rattle.starlark_rules.proofs.Adding.{adds_as, adds_then, ok_then, rules_more}

@@ -2,8 +2,8 @@ use Rattle.std.proofs.Common.{take}
 use Rattle.starlark_ast.specs.StatementViews.{statements_of}
 use Rattle.starlark_ast.specs.View.{stmt_at}
 use Rattle.starlark_rules.proofs.Nodes.{nodes}
-use Rattle.starlark_rules.specs.Found.{Adds}
-use Rattle.starlark_rules.specs.Late as late
+use Rattle.starlark_rulebook.specs.Found.{Adds}
+use Rattle.starlark_rulebook.specs.Late as late
 use Rattle.starlark_rules.specs.Standings.{standing_of}
 use Rattle.starlark_rules.proofs.late.+statement_rules.Given as goal
 

@@ -1,7 +1,7 @@
 use Rattle.std.proofs.Common.{◌++◌, [], ap, cond}
 use Rattle.starlark_ast.specs.View.{parameter_at, members}
-use Rattle.starlark_rules.specs.Late as late
-use Rattle.starlark_rules.specs.Rules.{listed}
+use Rattle.starlark_rulebook.specs.Late as late
+use Rattle.starlark_rulebook.specs.Rules.{listed}
 use Rattle.starlark_rules.proofs.Adding.{adds_then, ok_then}
 use Rattle.starlark_rules.proofs.late.parameter_rules.Goals as goal
 

@@ -1,7 +1,7 @@
 use Rattle.std.proofs.Common.{take}
 use Rattle.starlark_ast.specs.View.{parameter_at, members}
-use Rattle.starlark_rules.specs.Found.{Adds}
-use Rattle.starlark_rules.specs.Late as late
+use Rattle.starlark_rulebook.specs.Found.{Adds}
+use Rattle.starlark_rulebook.specs.Late as late
 use Rattle.starlark_rules.proofs.late.star_rules.Given as goal
 
 abbrev pub invariant-loop-x : goal.invariant-loop-x

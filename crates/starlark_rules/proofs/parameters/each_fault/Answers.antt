@@ -1,7 +1,7 @@
 use Rattle.std.proofs.Common.{◌∙◌, ◌+◌, sym, ap, true, cond, take}
 use Rattle.starlark_ast.specs.View.{parameter_at, members}
-use Rattle.starlark_rules.specs.Parameters as parameters
-use Rattle.starlark_rules.specs.View.{maybe_finding, finding_of}
+use Rattle.starlark_rulebook.specs.Parameters as parameters
+use Rattle.starlark_rulebook.specs.View.{maybe_finding, finding_of}
 use Rattle.starlark_rules.proofs.Prefixes.{any_more, parameter_faults, still_clean, found_first}
 use Rattle.starlark_rules.proofs.parameters.each_fault.Goals as goal
 

@@ -1,7 +1,7 @@
 use Rattle.std.proofs.Common.{◌≡◌, take, None}
 use Rattle.starlark_ast.specs.View.{parameter_at, members}
-use Rattle.starlark_rules.specs.Calls.{any}
-use Rattle.starlark_rules.specs.Parameters as parameters
+use Rattle.starlark_rulebook.specs.Calls.{any}
+use Rattle.starlark_rulebook.specs.Parameters as parameters
 use Rattle.starlark_rules.proofs.parameters.each_fault.Given as goal
 
 abbrev pub invariant-loop-i : goal.invariant-loop-i

@@ -1,6 +1,6 @@
 use Rattle.std.proofs.Common.{◌∙◌, sym, ap, true, cond, string_bytes}
 use Rattle.starlark_ast.specs.View.{parameter_at}
-use Rattle.starlark_rules.specs.Parameters as parameters
+use Rattle.starlark_rulebook.specs.Parameters as parameters
 use Rattle.starlark_rules.proofs.Prefixes.{any_more}
 use Rattle.starlark_rules.proofs.parameters.is_taken.Goals as goal
 

@@ -1,7 +1,7 @@
 use Rattle.std.proofs.Common.{◌≡◌, take, string_bytes}
 use Rattle.starlark_ast.specs.View.{parameter_at, members}
-use Rattle.starlark_rules.specs.Calls.{any}
-use Rattle.starlark_rules.specs.Parameters as parameters
+use Rattle.starlark_rulebook.specs.Calls.{any}
+use Rattle.starlark_rulebook.specs.Parameters as parameters
 use Rattle.starlark_rules.proofs.parameters.is_taken.Given as goal
 
 abbrev pub invariant-loop-x : goal.invariant-loop-x

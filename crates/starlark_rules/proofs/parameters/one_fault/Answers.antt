@@ -3,9 +3,9 @@ use Rattle.starlark_ast.specs.Tree.{Bound}
 use Rattle.starlark_place.specs.Place.{Extent}
 use Rattle.starlark_ast.specs.View.{parameter_at, parameter_view, members, boxed_expr}
 use Rattle.starlark_ast.specs.Views.{parameter_view-Normal, parameter_view-Args, parameter_view-KwArgs}
-use Rattle.starlark_rules.specs.Parameters as parameters
-use Rattle.starlark_rules.specs.Rules as r
-use Rattle.starlark_rules.specs.Rules.{breaks, Finding, Rule, first_of as first}
+use Rattle.starlark_rulebook.specs.Parameters as parameters
+use Rattle.starlark_rulebook.specs.Rules as r
+use Rattle.starlark_rulebook.specs.Rules.{breaks, Finding, Rule, first_of as first}
 use Rattle.starlark_rules.proofs.parameters.one_fault.Goals as goal
 
 -- a rule that is broken where the flag is set

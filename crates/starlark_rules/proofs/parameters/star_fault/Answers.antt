@@ -1,8 +1,8 @@
 use Rattle.std.proofs.Common.{◌∙◌, ◌+◌, sym, ap, take}
 use Rattle.starlark_ast.specs.View.{parameter_at, members}
-use Rattle.starlark_rules.specs.Parameters as parameters
-use Rattle.starlark_rules.specs.Rules.{first_of as first}
-use Rattle.starlark_rules.specs.View.{maybe_finding, finding_of}
+use Rattle.starlark_rulebook.specs.Parameters as parameters
+use Rattle.starlark_rulebook.specs.Rules.{first_of as first}
+use Rattle.starlark_rulebook.specs.View.{maybe_finding, finding_of}
 use Rattle.starlark_rules.proofs.Prefixes.{star_faults, still_clean, found_first, ending_more}
 use Rattle.starlark_rules.proofs.parameters.star_fault.Goals as goal
 

@@ -1,8 +1,8 @@
 use Rattle.std.proofs.Common.{◌∙◌, ◌≡◌, sym, ap, length, nat_lt, true, false, Some, rules}
 use Rattle.starlark_place.specs.Place.{merged_all}
 use Rattle.starlark_ast.specs.View.{parameter_at, members}
-use Rattle.starlark_rules.specs.Parameters as parameters
-use Rattle.starlark_rules.specs.Rules.{breaks, TooManyParameters}
+use Rattle.starlark_rulebook.specs.Parameters as parameters
+use Rattle.starlark_rulebook.specs.Rules.{breaks, TooManyParameters}
 use Rattle.starlark_rules.proofs.Prefixes.{count_members}
 use Rattle.starlark_rules.proofs.parameters.too_many.Goals as goal
 

@@ -1,7 +1,7 @@
 use Rattle.std.proofs.Common.{◌∙◌, sym, ap}
 use Rattle.starlark_place.specs.Place.{merged_into}
 use Rattle.starlark_ast.specs.View.{parameter_at}
-use Rattle.starlark_rules.specs.Parameters as parameters
+use Rattle.starlark_rulebook.specs.Parameters as parameters
 use Rattle.starlark_rules.proofs.Prefixes.{merged_more}
 use Rattle.starlark_rules.proofs.parameters.whole_span.Goals as goal
 

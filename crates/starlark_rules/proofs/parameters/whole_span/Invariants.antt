@@ -1,7 +1,7 @@
 use Rattle.std.proofs.Common.{◌≡◌, take, fold, None}
 use Rattle.starlark_place.specs.Place.{merged_into}
 use Rattle.starlark_ast.specs.View.{parameter_at, members}
-use Rattle.starlark_rules.specs.Parameters as parameters
+use Rattle.starlark_rulebook.specs.Parameters as parameters
 use Rattle.starlark_rules.proofs.parameters.whole_span.Given as goal
 
 abbrev pub invariant-loop-x : goal.invariant-loop-x

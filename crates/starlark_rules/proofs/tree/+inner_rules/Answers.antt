@@ -3,7 +3,7 @@ use Rattle.std.proofs.Math.Seq.{take-length}
 use Rattle.std.proofs.lemmas.List.{append-nil}
 use Rattle.starlark_ast.specs.StatementViews.{statements_of, stmt_view-AssignModify, stmt_view-If, stmt_view-IfElse, stmt_view-For, stmt_view-Def, stmt_view-Statements, view-def, view-for}
 use Rattle.starlark_ast.specs.View.{stmt_at, stmt_view, members, parameter_at, expr_at, target_at, boxed_type}
-use Rattle.starlark_rules.specs.Late as late
+use Rattle.starlark_rulebook.specs.Late as late
 use Rattle.starlark_rules.proofs.Nodes.{nodes, all_nodes, nodes_of_one}
 use Rattle.starlark_rules.proofs.Adding.{adds_as, adds_then, ok_then, inner_more}
 use Rattle.starlark_rules.proofs.tree.+inner_rules.Goals as goal

@@ -5,7 +5,7 @@ use Rattle.starlark_ast.specs.Tree as t
 use Rattle.starlark_ast.specs.View.{expr_at, expr_view}
 use Rattle.starlark_ast.specs.Views.{items_of, expr_view-Tuple, expr_view-Dot, expr_view-Op, expr_view-List, expr_view-Identifier, expr_view-Index2}
 use Rattle.starlark_rules.specs.Misfits.{forms_view, lent_members}
-use Rattle.starlark_rules.specs.Types.{alone, argument, form_of, forms_of, from, index2_of, root, attributes, dotted, path_of, path_form, tuple_form, add_form}
+use Rattle.starlark_rulebook.specs.Types.{alone, argument, form_of, forms_of, from, index2_of, root, attributes, dotted, path_of, path_form, tuple_form, add_form}
 use Rattle.starlark_rules.proofs.Forms.{form_view-Index2}
 use Rattle.starlark_rules.proofs.Misfits.{comes_as, exits, first_stops, forms_go_on, forms_stop, given, index2_comes, keeps_argument, keeps_second_argument, list_argument, same_alone, second_is, single_is, stops_for, union_is, union_of_two}
 use Rattle.starlark_rules.proofs.Places.{place_at}

@@ -2,7 +2,7 @@ use Rattle.std.proofs.Common.{◌≡◌, ◌+◌, ◌*◌, take, Ok}
 use Rattle.starlark_ast.specs.View.{expr_at}
 use Rattle.starlark_ast.specs.Views.{items_of}
 use Rattle.starlark_rules.specs.Misfits.{forms_view}
-use Rattle.starlark_rules.specs.Types.{alone, argument, forms_of}
+use Rattle.starlark_rulebook.specs.Types.{alone, argument, forms_of}
 use Rattle.starlark_rules.proofs.Sizes.{size, sizes}
 use Rattle.starlark_rules.proofs.types.+parts.Given as goal
 

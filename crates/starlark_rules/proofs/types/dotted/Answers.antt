@@ -4,7 +4,7 @@ use Rattle.starlark_ast.specs.Tree as t
 use Rattle.starlark_ast.specs.View.{expr_at, expr_view}
 use Rattle.starlark_ast.specs.Views.{expr_view-Identifier}
 use Rattle.starlark_rules.specs.Forms.{attribute}
-use Rattle.starlark_rules.specs.Types.{attributes}
+use Rattle.starlark_rulebook.specs.Types.{attributes}
 use Rattle.starlark_rules.proofs.Misfits.{banned, stops_at, taken}
 use Rattle.starlark_rules.proofs.types.dotted.Goals as goal
 

@@ -5,7 +5,7 @@ use Rattle.starlark_write.specs.Beside.{AtPlace, KeepsPlaces, KeepsAllPlaces}
 use Rattle.starlark_ast.specs.Places.{assigned_places}
 use Rattle.starlark_write.specs.Writing.{WritesUntil}
 use Rattle.starlark_ast.specs.declared.ast.AssignTargetP.TheVariants as target
-use Rattle.starlark_ast.proofs.Children.{assigned-Tuple, assigned-Index, assigned-Dot, assigned-Identifier}
+use Rattle.starlark_visit.proofs.Children.{assigned-Tuple, assigned-Index, assigned-Dot, assigned-Identifier}
 use Rattle.starlark_write.proofs.KeptParts.{places_rest, with_node}
 use Rattle.starlark_write.proofs.Lent.{seen, seen_left, target_lent}
 use Rattle.starlark_write.proofs.Loops as loops

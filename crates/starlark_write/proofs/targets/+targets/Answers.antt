@@ -5,7 +5,7 @@ use Rattle.starlark_write.specs.Beside.{AtPlace, KeepsTarget, KeepsTargets}
 use Rattle.starlark_ast.specs.Places.{target_places}
 use Rattle.starlark_write.specs.Writing.{WritesUntil}
 use Rattle.starlark_ast.specs.declared.ast.AssignTargetP.TheVariants as target
-use Rattle.starlark_ast.proofs.Children.{target_places-Tuple, target_places-Index, target_places-Dot, target_places-Identifier}
+use Rattle.starlark_visit.proofs.Children.{target_places-Tuple, target_places-Index, target_places-Dot, target_places-Identifier}
 use Rattle.starlark_write.proofs.KeptParts.{targets_rest, with_node}
 use Rattle.starlark_write.proofs.Lent.{seen, seen_left, target_lent}
 use Rattle.starlark_write.proofs.Loops as loops

@@ -1,8 +1,8 @@
 use Rattle.std.proofs.Common.{sym, subst}
 use Rattle.std.specs.Str.{IsCharBoundary}
 use Rattle.starlark_ast.specs.View.{stmt_at}
-use Rattle.starlark_parser.specs.Comments.{AreHeld}
-use Rattle.starlark_parser.specs.Ends.{StatementAt}
+use Rattle.starlark_grammar.specs.Comments.{AreHeld}
+use Rattle.starlark_grammar.specs.Ends.{StatementAt}
 use Rattle.starlark_parser.proofs.module.AstModule.clone.Goals as goal
 
 pub invariant_of-result : goal.invariant_of-result

@@ -1,9 +1,9 @@
 use Rattle.std.proofs.Common.{sym, subst}
 use Rattle.std.proofs.Math.Logic.{∥∥₁_map}
 use Rattle.std.specs.Str.{IsCharBoundary}
-use Rattle.starlark_ast.specs.Replacing.{renaming}
+use Rattle.starlark_clone.specs.Replacing.{renaming}
 use Rattle.starlark_ast.specs.View.{stmt_at}
-use Rattle.starlark_parser.specs.Ends.{StatementAt}
+use Rattle.starlark_grammar.specs.Ends.{StatementAt}
 use Rattle.starlark_parser.proofs.EndsOfReplaced.{replaced_at}
 use Rattle.starlark_parser.proofs.module.AstModule.replace_binary_operators.Goals as goal
 

@@ -1,9 +1,9 @@
 use Rattle.std.proofs.Common.{◌≡◌, ◌∙◌, sym, ap, subst, Option, Some}
 use Rattle.starlark_ast.specs.View.{argument_at, call_args_view, members}
 use Rattle.starlark_ast.specs.Views.{view-args}
-use Rattle.starlark_rules.specs.Calls.{first_call_fault}
-use Rattle.starlark_rules.specs.Rules.{Finding}
-use Rattle.starlark_rules.specs.View.{IsPlaced, RefusesFor, finding_of, maybe_finding}
+use Rattle.starlark_rulebook.specs.Calls.{first_call_fault}
+use Rattle.starlark_rulebook.specs.Rules.{Finding}
+use Rattle.starlark_rulebook.specs.View.{IsPlaced, RefusesFor, finding_of, maybe_finding}
 use Rattle.starlark_rules.proofs.arguments.CallArgsUnpack.unpack.Goals as goal
 
 pub refused-requires : goal.refused-requires

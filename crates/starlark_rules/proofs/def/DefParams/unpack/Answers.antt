@@ -3,9 +3,10 @@ use Rattle.std.proofs.lemmas.List.{length-map}
 use Rattle.starlark_ast.specs.View.{parameter_at, members}
 use Rattle.starlark_rules.specs.declared.def.DefParamIndices.{DefParamIndices}
 use Rattle.starlark_rules.specs.Named.{AreWithin, lent_param}
-use Rattle.starlark_rules.specs.Parameters as parameters
-use Rattle.starlark_rules.specs.Rules.{Finding}
-use Rattle.starlark_rules.specs.View.{IsPlaced, RefusesFor, finding_of, maybe_finding}
+use Rattle.starlark_rulebook.specs.Parameters as parameters
+use Rattle.starlark_rules.specs.ParameterKinds as kinds
+use Rattle.starlark_rulebook.specs.Rules.{Finding}
+use Rattle.starlark_rulebook.specs.View.{IsPlaced, RefusesFor, finding_of, maybe_finding}
 use Rattle.starlark_rules.proofs.Prefixes.{count_members}
 use Rattle.starlark_rules.proofs.ParameterLists.{few, ordered, are_within}
 use Rattle.starlark_rules.proofs.def.DefParams.unpack.Goals as goal
@@ -34,5 +35,5 @@ pub returns-clause-within : goal.returns-clause-within
 returns-clause-within g c =
     let ms = members parameter_at c.args.params.now in
     let e : parameters.first_parameter_fault ms ≡ None = sym c.parameter_fault.ensures ∙ ap maybe_finding c.in_default.is in
-    let n : length c.in-Ok.named.items ≡ length (parameters.params_of ms) = sym (length-map c.in-Ok.named.items lent_param) ∙ ap length c.in-Ok.ensures in
+    let n : length c.in-Ok.named.items ≡ length (kinds.params_of ms) = sym (length-map c.in-Ok.named.items lent_param) ∙ ap length c.in-Ok.ensures in
     subst (λ (i : DefParamIndices). AreWithin i (length c.in-Ok.named.items)) (sym c.indices.ensures) (are_within ms (length c.in-Ok.named.items) n (few ms e))

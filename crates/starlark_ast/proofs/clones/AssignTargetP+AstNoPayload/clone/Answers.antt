@@ -1,6 +1,0 @@
-use Rattle.std.proofs.Common.{◌∙◌, refl, None}
-use Rattle.starlark_ast.proofs.Stays.{stays}
-use Rattle.starlark_ast.proofs.clones.AssignTargetP+AstNoPayload.clone.Goals as goal
-
-pub returns : goal.returns
-returns c s = c.in_ok-target.ensures s ∙ stays (λ _. None) (λ _. refl) _

@@ -1,6 +1,0 @@
-use Rattle.std.proofs.Common.{◌∙◌, refl, None}
-use Rattle.starlark_ast.proofs.Stays.{clause_stays}
-use Rattle.starlark_ast.proofs.clones.ClauseP+AstNoPayload.clone.Goals as goal
-
-pub returns : goal.returns
-returns c = c.in_ok-clause.ensures ∙ clause_stays (λ _. None) (λ _. refl) _

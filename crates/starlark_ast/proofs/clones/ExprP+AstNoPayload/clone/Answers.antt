@@ -1,7 +1,0 @@
-use Rattle.std.proofs.Common.{◌∙◌, refl, None}
-use Rattle.starlark_ast.proofs.Moved.{same_anywhere}
-use Rattle.starlark_ast.proofs.Stays.{stays}
-use Rattle.starlark_ast.proofs.clones.ExprP+AstNoPayload.clone.Goals as goal
-
-pub returns : goal.returns
-returns c s = same_anywhere _ _ _ (c.in_ok-expression.ensures ∙ stays (λ _. None) (λ _. refl) _) s

@@ -1,7 +1,0 @@
-use Rattle.starlark_ast.specs.Calls.{lent}
-use Rattle.starlark_ast.proofs.Lifted.{all_none, all_then}
-use Rattle.starlark_ast.proofs.walk.on_boxed.Goals as goal
-
-pub returns-clause-calls : goal.returns-clause-calls
-returns-clause-calls g c =
-    all_then lent g.F.FnMut c.f.ensures c.deref.ensures (all_none lent g.F.FnMut)

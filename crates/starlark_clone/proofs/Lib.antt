@@ -1,0 +1,4 @@
+pub mod Made
+pub mod MadeStatements
+pub mod Moved
+pub mod Stays

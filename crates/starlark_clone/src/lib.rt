@@ -1,0 +1,17 @@
+//! Trees made again: clones, and statements with calls in the place of operations.
+#![tactic(auto)]
+
+mod again;
+mod again_statements;
+mod called;
+pub mod clone_tree;
+mod clones;
+mod clones_of_statements;
+mod copies;
+mod kept;
+mod kept_statements;
+pub mod laws;
+mod make;
+mod make_statements;
+mod rename;
+pub mod renaming;

@@ -1,5 +1,0 @@
-use Rattle.starlark_parser.proofs.Doubling.{put_once}
-use Rattle.starlark_parser.proofs.f_string.push_twice_if_brace.Goals as goal
-
-pub returns : goal.returns
-returns c = put_once _ _ _ _ c.if-c-eq123.false c.if-c-eq125.false c.push.ensures.bytes

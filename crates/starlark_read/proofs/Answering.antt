@@ -1,0 +1,117 @@
+-- What a whole text is told.
+use Rattle.std.proofs.Common.{◌≡◌, ◌≢◌, ℕ, List, [], ◌∷◌, Option, Some, None, Result, Ok, Err, IfOk, refl, ap, sym, subst, ◌∙◌}
+use Rattle.starlark_place.specs.declared.pos.Spanned.{Spanned}
+use Rattle.starlark_lexer.specs.Items.{Item, Stop, Lexed}
+use Rattle.starlark_lexer.specs.Lex.{Lex, start}
+use Rattle.starlark_lexer.specs.declared.dialect.Dialect.{Dialect}
+use Rattle.starlark_ast.specs.Tree.{Statement, Sequence, no_statements}
+use Rattle.starlark_rulebook.specs.declared.rule.Rule.{Rule}
+use Rattle.starlark_rulebook.specs.Rules.{Finding}
+use Rattle.starlark_rulebook.specs.View.{finding_of, rule_view}
+use Rattle.starlark_grammar.specs.Events.{end_finding}
+use Rattle.starlark_grammar.specs.Nodes.{block_of}
+use Rattle.starlark_grammar.specs.Frames.{at_line, outer}
+use Rattle.starlark_grammar.specs.Runs.{initial, run}
+use Rattle.starlark_grammar.specs.Verdicts.{Fine, Unexpected, Broken, Spoilt, settle, judge}
+use Rattle.starlark_grammar.specs.Language.{Fault, IsProgram, IsRefusal, IsRefused, Language, by_rule, last_end, uncommented}
+use Rattle.starlark_read.specs.Asides.{Aside}
+use Rattle.starlark_read.specs.Reads.{Left, left_of, Answers, Goes, Sticks}
+use Rattle.starlark_read.specs.declared.refused.Refused.{Refused}
+use Rattle.starlark_read.specs.Refused.{fault_ahead, fault_at, fault_of}
+use Rattle.starlark_grammar.proofs.Steps.{runs_end}
+use Rattle.starlark_grammar.proofs.Refusals.{told, told_of, Answered, a_program, a_refusal, answered}
+use Rattle.starlark_grammar.proofs.Decided.{program_judge}
+
+-- what is told as a reason is one
+pub refusal_is : (d : Dialect) (l : Lexed) (f : Fault) → told_of d l ≡ Some f → IsRefusal d l f
+refusal_is d l f h = go (told_of d l) h (answered d l)
+  where
+    go : (o : Option Fault) → o ≡ Some f → Answered d l o → IsRefusal d l f
+    go None h a = absurd (let n : None ≡ Some f = h in (cc))
+    go (Some g) h (a_refusal r) = let w : g ≡ f = cc in subst (IsRefusal d l) w r
+
+-- and a tree that is told is the program's
+pub program_is : (d : Dialect) (l : Lexed) (raw : Statement) → judge d (run initial l.items) ≡ Fine raw → l.fault ≡ None → IsProgram d l.items raw
+program_is d l raw h n = go (told_of d l) (ap (λ v. told v l.fault (last_end 0 l.items)) h ∙ ap (λ s. told (Fine raw) s (last_end 0 l.items)) n) (answered d l)
+  where
+    go : (o : Option Fault) → o ≡ None → Answered d l o → IsProgram d l.items raw
+    go None q (a_program s m p) = let w : Fine s ≡ Fine raw = sym (program_judge p) ∙ h in let z : s ≡ raw = cc in subst (IsProgram d l.items) z p
+    go (Some f) q a = absurd (let z : Some f ≡ None = q in (cc))
+
+-- stuck there
+stuck_at : (xs : List Item) (s : Option Stop) (e : ℕ) → told (Unexpected xs) s (last_end e xs) ≡ Some (fault_at xs s e)
+stuck_at (x ∷ xs) s e = refl
+stuck_at [] (Some s) e = refl
+stuck_at [] None e = refl
+
+pub stuck_is : {d : Dialect} {l : Lexed} {a : Aside} (us : Left) → Sticks d initial (left_of 0 l a) us → IsRefusal d l (fault_ahead us)
+stuck_is {d} {l} us p = refusal_is d l (fault_ahead us) (ap (λ v. told v l.fault (last_end 0 l.items)) p.same ∙ ap (λ s. told (Unexpected us.items) s (last_end 0 l.items)) (sym p.behind.fault) ∙ ap (told (Unexpected us.items) us.fault) (sym p.behind.last) ∙ stuck_at us.items us.fault us.last)
+
+-- a rule is broken
+pub broken_is : {d : Dialect} {l : Lexed} {a : Aside} {us : Left} {n : ℕ} (f : Spanned Rule) → Answers d initial (left_of 0 l a) (Broken (finding_of f) n) us → IsRefusal d l (by_rule (rule_view f.node) f.span)
+broken_is {d} {l} f p = refusal_is d l _ (ap (λ v. told v l.fault (last_end 0 l.items)) p.same)
+
+-- all tokens were read
+pub record Read (d : Dialect) (l : Lexed) (us : Left) (raw : Statement) : Type 0 where
+  pub same : judge d (run initial l.items) ≡ settle raw (end_finding d raw)
+  pub fault : us.fault ≡ l.fault
+  pub items : us.items ≡ []
+
+pub all_read : {d : Dialect} {l : Lexed} {a : Aside} (us : Left) (ss : Sequence) → Goes d initial (left_of 0 l a) (at_line (outer ss) us.last) us → us.items ≡ [] → Read d l us (block_of ss us.last)
+all_read {d} us ss g e = record {
+  same = g.same ∙ ap (λ xs. judge d (run (at_line (outer ss) us.last) xs)) e ∙ ap (judge d) (runs_end (at_line (outer ss) us.last));
+  fault = g.behind.fault;
+  items = e;
+}
+
+pub read_as : {d : Dialect} {l : Lexed} {us : Left} {raw : Statement} (s : Statement) → Read d l us raw → s ≡ raw → Read d l us s
+read_as {d} {l} {us} s r w = subst (Read d l us) (sym w) r
+
+-- the lexer's fault behind them
+fault_told : (raw : Statement) (o : Option Finding) (s : Option Stop) (e n : ℕ) → s ≢ None → told (settle raw o) s n ≡ Some (fault_at [] s e)
+fault_told raw o None e n h = absurd (h refl)
+fault_told raw None (Some s) e n h = refl
+fault_told raw (Some f) (Some s) e n h = refl
+
+pub fault_is : {d : Dialect} {l : Lexed} {us : Left} {raw : Statement} → Read d l us raw → us.fault ≢ None → IsRefusal d l (fault_ahead us)
+fault_is {d} {l} {us} {raw} r h = refusal_is d l (fault_ahead us) (ap (λ v. told v l.fault (last_end 0 l.items)) r.same ∙ ap (λ s. told (settle raw (end_finding d raw)) s (last_end 0 l.items)) (sym r.fault) ∙ fault_told raw (end_finding d raw) us.fault us.last (last_end 0 l.items) h ∙ ap (λ xs. Some (fault_at xs us.fault us.last)) (sym r.items))
+
+-- a rule that counts at the end
+pub spoilt_is : {d : Dialect} {l : Lexed} {us : Left} {raw : Statement} (f : Spanned Rule) → Read d l us raw → us.fault ≡ None → end_finding d raw ≡ Some (finding_of f) → IsRefusal d l (by_rule (rule_view f.node) f.span)
+spoilt_is {d} {l} {us} {raw} f r n h = refusal_is d l _ (ap (λ v. told v l.fault (last_end 0 l.items)) (r.same ∙ ap (settle raw) h) ∙ ap (λ s. told (Spoilt raw (finding_of f)) s (last_end 0 l.items)) (sym r.fault ∙ n))
+
+-- no rule
+pub fine_is : {d : Dialect} {l : Lexed} {us : Left} {raw : Statement} → Read d l us raw → us.fault ≡ None → end_finding d raw ≡ None → (l.fault ≡ None) × IsProgram d l.items raw
+fine_is {d} {l} {us} {raw} r n h = let q = sym r.fault ∙ n in (q, program_is d l raw (r.same ∙ ap (settle raw) h) q)
+
+-- the same by the code's names
+pub stuck_from : {d : Dialect} {l : Lexed} {a : Aside} {ts : Left} (us : Left) → ts ≡ left_of 0 l a → Sticks d (at_line (outer no_statements) ts.last) ts us → IsRefusal d l (fault_ahead us)
+stuck_from {d} us w p = stuck_is us (subst (λ z. Sticks d (at_line (outer no_statements) z.last) z us) w p)
+
+pub broken_from : {d : Dialect} {l : Lexed} {a : Aside} {n : ℕ} {ts us : Left} (f : Spanned Rule) → ts ≡ left_of 0 l a → Answers d (at_line (outer no_statements) ts.last) ts (Broken (finding_of f) n) us → IsRefusal d l (by_rule (rule_view f.node) f.span)
+broken_from {d} {n = n} {us = us} f w p = broken_is f (subst (λ z. Answers d (at_line (outer no_statements) z.last) z (Broken (finding_of f) n) us) w p)
+
+pub read_from : {d : Dialect} {l : Lexed} {a : Aside} {ts : Left} (us : Left) (ss : Sequence) → ts ≡ left_of 0 l a → Goes d (at_line (outer no_statements) ts.last) ts (at_line (outer ss) us.last) us → us.items ≡ [] → Read d l us (block_of ss us.last)
+read_from {d} us ss w g e = all_read us ss (subst (λ z. Goes d (at_line (outer no_statements) z.last) z (at_line (outer ss) us.last) us) w g) e
+
+-- the reason that was given
+pub given : {A : Type 0} {d : Dialect} {l : Lexed} {r : Refused} {g : Fault} → fault_of r ≡ Some g → IsRefusal d l g → (e : Refused) (f : Fault) → ◌≡◌ {A = Result A Refused} (Err r) (Err e) → fault_of e ≡ Some f → IsRefusal d l f
+given {A} {d} {l} {r} {g} q p e f h w = let z : r ≡ e = same_error h in let v : g ≡ f = (let n : Some g ≡ Some f = sym q ∙ ap fault_of z ∙ w in (cc)) in subst (IsRefusal d l) v p
+  where
+    same_error : ◌≡◌ {A = Result A Refused} (Err r) (Err e) → r ≡ e
+    same_error h = cc
+
+-- of a text
+pub refused_text : {d : Dialect} {text : List ℕ} {l : Lexed} {f : Fault} → Lex start text l → IsRefusal d (uncommented l) f → IsRefused d text f
+refused_text {l = l} h p = record { lexed = l; lexes = h; refusal = p }
+
+pub whole_text : {d : Dialect} {text : List ℕ} {l : Lexed} {raw : Statement} → Lex start text l → (l.fault ≡ None) × IsProgram d (uncommented l).items raw → Language d text raw
+whole_text {l = l} h p = record { lexed = l; lexes = h; no_fault = p.0; program = p.1 }
+
+pub whole_texts : {A : Type 0} (d : Dialect) {text : List ℕ} {l : Lexed} (r : Result A Refused) (says : A → Statement) → Lex start text l → IfOk r (λ x. (l.fault ≡ None) × IsProgram d (uncommented l).items (says x)) → IfOk r (λ x. Language d text (says x))
+whole_texts d (Ok x) says h p = whole_text h p
+whole_texts d (Err e) says h p = tt
+
+-- the tokens of all that a lexer has left
+pub opened : {t : Left} {l m n : Lexed} {a b : Aside} → t ≡ left_of 0 l a → m ≡ l → n ≡ m → a ≡ b → t ≡ left_of 0 n b
+opened {t} {l} {m} {n} {a} {b} w p q r = w ∙ ap (λ z. left_of 0 z a) (sym (q ∙ p)) ∙ ap (λ z. left_of 0 n z) r

@@ -1,0 +1,9 @@
+pub mod Kinds
+pub mod Asides
+pub mod Reads
+pub mod Counted
+pub mod Gathered
+pub mod Assigning
+pub mod Lines
+pub mod Signature
+pub mod Refused

@@ -1,0 +1,131 @@
+//! What is asked of the lexer.
+
+ghost use Rattle.std.specs.Prelude.{◌≡◌, ◌≤◌, ◌∷◌, ◌++◌, IfOk, [], true};
+ghost use Rattle.starlark_lexer.specs.Items.{lexeme_of};
+ghost use Rattle.starlark_read.specs.Asides.{ahead_end, aside_in, aside_of, in_all};
+ghost use Rattle.starlark_grammar.specs.Language.{is_comment, uncommented};
+ghost use Rattle.starlark_read.specs.Reads.{with_ahead};
+
+use crate::cost::Cost;
+use crate::told::Comments;
+use starlark_lexer::lexer::Lexer;
+use starlark_lexer::token::{LexemeError, Token};
+use starlark_place::diagnostic::Refusal;
+use starlark_place::pos::{Pos, Span};
+use std::alloc::{AllocError, Global};
+
+/// What the lexer gave last.
+#[derive(Drop)]
+pub(crate) enum Lookahead {
+    Token(Span, Token),
+    End,
+    Fault(LexemeError, Span),
+}
+
+/// A lexer whose comments are put aside and whose answers are counted.
+#[derive(Drop)]
+pub(crate) struct Feed<'a> {
+    lexer: Lexer<'a>,
+    // where the comments stand
+    comments: Vec<Span>,
+    // for each of them, whether the item right before it is a comment, too
+    joined: Vec<bool>,
+    // whether the last item is a comment
+    behind_comment: bool,
+    // how often the lexer was asked
+    asks: u64,
+}
+
+/// Whether the token is a comment.
+fn is_comment(token: &Token) -> bool
+    ensures { result ≡ is_comment (lexeme_of token.now) }
+{
+    match token {
+        Token::Comment(_) => true,
+        _ => false,
+    }
+}
+
+impl<'a> Feed<'a> {
+    /// A lexer that was not asked yet.
+    pub(crate) fn new(alloc: Global, lexer: Lexer<'a>) -> Feed<'a>
+        ensures lexer { result.lexer ≡ lexer.entry }
+        ensures aside { in_all result ≡ aside_in lexer.entry.left.items }
+    {
+        Feed {
+            lexer,
+            comments: Vec::new(alloc),
+            joined: Vec::new(alloc),
+            behind_comment: false,
+            asks: 0,
+        }
+    }
+
+    /// What the lexer gives next that is no comment.
+    pub(crate) fn fetch(&mut self) -> Result<Lookahead, AllocError>
+        ensures tokens { IfOk result (λ a. uncommented self.old.lexer.left ≡ with_ahead a (uncommented self.new.lexer.left)) }
+        ensures aside { IfOk result (λ a. aside_of a self.new ≡ in_all self.old) }
+        ensures reaches { IfOk result (λ a. ahead_end a ≤ self.new.lexer.place) }
+        ensures on { self.old.lexer.place ≤ self.new.lexer.place }
+        ensures asked { 1 ≤ self.new.asks }
+    {
+        while let Some(answer) = self.lexer.next() {
+            self.asks = self.asks.saturating_add(1);
+            match answer {
+                Ok((begin, token, end)) => {
+                    let span = Span::new(Pos::new(begin as u32), Pos::new(end as u32));
+                    if !is_comment(&token) {
+                        self.behind_comment = false;
+                        return Ok(Lookahead::Token(span, token));
+                    }
+                    self.put_aside(span)?;
+                }
+                Err(Refusal::Memory) => return Err(AllocError),
+                Err(Refusal::Fault(fault)) => {
+                    let Some(place) = fault.span() else {
+                        unreachable!();
+                    };
+                    return Ok(Lookahead::Fault(*fault.inner(), place.span));
+                }
+            }
+        }
+        self.asks = self.asks.saturating_add(1);
+        Ok(Lookahead::End)
+    }
+
+    /// One more comment.
+    fn put_aside(&mut self, comment: Span) -> Result<(), AllocError>
+        ensures comments { IfOk result (λ u. self.new.comments.items ≡ self.old.comments.items ++ comment ∷ []) }
+        ensures joined { IfOk result (λ u. self.new.joined.items ≡ self.old.joined.items ++ self.old.behind_comment ∷ []) }
+        ensures behind { IfOk result (λ u. self.new.behind_comment ≡ true) }
+        ensures lexer { self.new.lexer ≡ self.old.lexer }
+        ensures asks { self.new.asks ≡ self.old.asks }
+    {
+        self.comments.push(comment)?;
+        self.joined.push(self.behind_comment)?;
+        self.behind_comment = true;
+        Ok(())
+    }
+
+    /// What it took so far.
+    pub(crate) fn cost(&self) -> Cost
+        ensures asks { result.asks ≡ self.now.asks }
+        ensures reads { self.now.lexer.place ≤ result.reads }
+    {
+        Cost {
+            reads: self.lexer.reads(),
+            asks: self.asks,
+        }
+    }
+
+    /// The comments that were passed.
+    pub(crate) fn into_comments(self) -> Comments
+        ensures places { result.places.items ≡ self.entry.comments.items }
+        ensures joined { result.joined.items ≡ self.entry.joined.items }
+    {
+        Comments {
+            places: self.comments,
+            joined: self.joined,
+        }
+    }
+}

@@ -1,0 +1,77 @@
+//! A whole text.
+
+ghost use Rattle.std.specs.Prelude.{◌≡◌, ◌≢◌, ◌≤◌, ℕ, IfErr, IfOk, List, false, None, Some, Err, [], suc, length};
+ghost use Rattle.starlark_lexer.specs.Items.{Lexed};
+ghost use Rattle.starlark_lexer.specs.Lex.{Lex, start};
+ghost use Rattle.starlark_read.specs.declared.refused.Refused.{Refused};
+ghost use Rattle.starlark_read.specs.Asides.{Aside, counted};
+ghost use Rattle.starlark_grammar.specs.Comments.{comments_in, joined_in};
+ghost use Rattle.starlark_grammar.specs.Language.{Fault, IsProgram, IsRefusal, IsRefused, Language, last_end, uncommented};
+ghost use Rattle.starlark_read.specs.Reads.{left_of, SameEnd};
+ghost use Rattle.starlark_read.specs.Refused.{fault_of};
+
+use crate::block::block;
+use crate::error::Error;
+use crate::feed::Feed;
+use crate::refused::Refused;
+use crate::statements::statements;
+use crate::tokens::Tokens;
+use crate::told::Told;
+use starlark_grammar::build::Build;
+use starlark_lexer::dialect::Dialect;
+use starlark_lexer::lexer::Lexer;
+use std::alloc::Global;
+
+/// The tree of all that a lexer has left, as `B` makes it, or why there is none. It tells the comments and what it took
+/// to read. Where memory ran out, what is told of the cost is what was spent until then.
+pub fn read<B: Build>(
+    alloc: Global,
+    lexer: Lexer<'_>,
+    dialect: &Dialect,
+    told: &mut Told,
+) -> Result<B::Stmt, Refused>
+    ensures whole { IfOk result (λ x. (lexer.entry.left.fault ≡ None) × IsProgram dialect.now (uncommented lexer.entry.left).items (B.says x)) }
+    ensures refused { (e : Refused) (f : Fault) → result ≡ Err e → fault_of e ≡ Some f → IsRefusal dialect.now (uncommented lexer.entry.left) f }
+    ensures language { (text : List ℕ) → Lex start text lexer.entry.left → IfOk result (λ x. Language dialect.now text (B.says x)) }
+    ensures reason { (text : List ℕ) (e : Refused) (f : Fault) → Lex start text lexer.entry.left → result ≡ Err e → fault_of e ≡ Some f → IsRefused dialect.now text f }
+    ensures comments { IfOk result (λ x. told.new.comments.places.items ≡ comments_in lexer.entry.left.items) }
+    ensures joined { IfOk result (λ x. told.new.comments.joined.items ≡ joined_in false lexer.entry.left.items) }
+    ensures asks { IfOk result (λ x. told.new.cost.asks ≡ counted (suc (length lexer.entry.left.items))) }
+    ensures reads { IfOk result (λ x. last_end 0 (uncommented lexer.entry.left).items ≤ told.new.cost.reads) }
+    ensures some { IfErr result (λ e. fault_of e ≢ None → 1 ≤ told.new.cost.asks) }
+    ensures most { IfErr result (λ e. fault_of e ≢ None → told.new.cost.asks ≤ counted (suc (length lexer.entry.left.items))) }
+{
+    let mut feed = Feed::new(alloc, lexer);
+    let Ok(ahead) = feed.fetch() else {
+        told.cost = feed.cost();
+        return Err(Refused::Memory);
+    };
+    let mut tokens = Tokens::new(alloc, feed, ahead);
+    let answer = program::<B>(&mut tokens, dialect);
+    told.cost = tokens.cost();
+    told.comments = tokens.into_comments();
+    answer
+}
+
+/// The tree of all tokens, or why there is none.
+fn program<B: Build>(tokens: &mut Tokens<'_>, dialect: &Dialect) -> Result<B::Stmt, Refused>
+    ensures whole { (l : Lexed) (a : Aside) → tokens.old ≡ left_of 0 l a → IfOk result (λ x. (l.fault ≡ None) × IsProgram dialect.now l.items (B.says x)) }
+    ensures refused { (l : Lexed) (a : Aside) → tokens.old ≡ left_of 0 l a → (e : Refused) (f : Fault) → result ≡ Err e → fault_of e ≡ Some f → IsRefusal dialect.now l f }
+    ensures ended { IfOk result (λ x. (tokens.new.items ≡ []) × SameEnd tokens.old tokens.new) }
+    ensures aside { IfErr result (λ e. fault_of e ≢ None → tokens.new.aside ≡ tokens.old.aside) }
+{
+    let statements = match statements::<B>(tokens, dialect) {
+        Ok(statements) => statements,
+        Err(Error::Unexpected) => return Err(tokens.refusal()),
+        Err(Error::Broken(rule)) => return Err(Refused::Rule(rule)),
+        Err(Error::Memory) => return Err(Refused::Memory),
+    };
+    if let Some(fault) = tokens.fault() {
+        return Err(fault);
+    }
+    let tree = block::<B>(statements, tokens.last());
+    match B::end_fault(tokens.alloc(), dialect, &tree)? {
+        Some(rule) => Err(Refused::Rule(rule)),
+        None => Ok(tree),
+    }
+}

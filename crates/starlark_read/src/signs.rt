@@ -1,0 +1,100 @@
+//! What stands before an expression: signs, and the parameters of a lambda.
+
+ghost use Rattle.std.specs.Prelude.{ℕ, ◌≡◌, ◌≢◌, ◌⊎◌, ◌+◌, ◌<◌, ◌≤◌, suc, false, OnOk, Some, length};
+ghost use Rattle.starlark_lexer.specs.Items.{keyword_lambda};
+ghost use Rattle.starlark_lexer.specs.declared.dialect.Dialect.{Dialect};
+ghost use Rattle.starlark_ast.specs.Tree as tree;
+ghost use Rattle.starlark_grammar.specs.Made.{maybe_sign, sign_of};
+ghost use Rattle.starlark_grammar.specs.Nodes.{start};
+ghost use Rattle.starlark_grammar.specs.Points.{before_body, behind_sign, member_wanted};
+ghost use Rattle.starlark_grammar.specs.Frames.{Frames, has, inside, stands, wants};
+ghost use Rattle.starlark_grammar.specs.Machine.{tails};
+ghost use Rattle.starlark_read.specs.Reads.{Comes, begins_ahead, first_lexeme, sign_ahead};
+
+use crate::error::Error;
+use crate::expression::expression;
+use crate::kind::Kind;
+use crate::parameters::lambda_parameters;
+use crate::tokens::Tokens;
+use starlark_grammar::build::Build;
+use starlark_grammar::make::Sign;
+use starlark_place::pos::Pos;
+
+/// A sign, where one stands ahead: what is behind it is of that level.
+pub(crate) fn sign(tokens: &mut Tokens<'_>, level: u8) -> Result<Sign, Error>
+    requires ahead { begins_ahead tokens.old.items ≡ level }
+    requires some { 0 < level }
+    requires no_lambda { first_lexeme tokens.old.items ≢ Some keyword_lambda }
+    ensures reads { (d : Dialect) (c : ℕ) (k : Frames) → Comes d (wants (c + level) k) (λ s. wants level (inside (behind_sign (sign_of s) (start tokens.old.items)) (tails (suc c) level k))) tokens.old result tokens.new }
+    ensures shorter { OnOk result (length tokens.new.items < length tokens.old.items) }
+{
+    let Some(sign) = sign_ahead(tokens) else {
+        unreachable!();
+    };
+    let _read = tokens.next()?;
+    Ok(sign)
+}
+
+// the sign that stands ahead
+fn sign_ahead(tokens: &Tokens<'_>) -> Option<Sign>
+    ensures { maybe_sign result ≡ sign_ahead tokens.now.items }
+{
+    match tokens.kind() {
+        Kind::Not => Some(Sign::Not),
+        Kind::Minus => Some(Sign::Minus),
+        Kind::Plus => Some(Sign::Plus),
+        Kind::Tilde => Some(Sign::BitNot),
+        _ => None,
+    }
+}
+
+/// The level of the sign or the lambda that stands ahead, or 0 where none stands there that an expression of a level
+/// begins with.
+pub(crate) fn level_ahead(tokens: &Tokens<'_>, level: u8) -> u8
+    ensures none { result ≡ 0 → (begins_ahead tokens.now.items ≡ 0) ⊎ (level < begins_ahead tokens.now.items) }
+    ensures some { result ≢ 0 → (begins_ahead tokens.now.items ≡ result) × (result ≤ level) }
+{
+    let floor = begins_at(tokens);
+    if level < floor { 0 } else { floor }
+}
+
+// the level of the sign or the lambda that stands ahead, or 0
+fn begins_at(tokens: &Tokens<'_>) -> u8
+    ensures { result ≡ begins_ahead tokens.now.items }
+{
+    match tokens.kind() {
+        Kind::Minus | Kind::Plus | Kind::Tilde => 1,
+        Kind::Not => 9,
+        Kind::Lambda => 12,
+        _ => 0,
+    }
+}
+
+/// What a sign that begins there stands before, an expression of that level.
+#[cycle(expression)]
+pub(crate) fn signed<B: Build>(
+    tokens: &mut Tokens<'_>,
+    begin: Pos,
+    sign: Sign,
+    level: u8,
+) -> Result<B::Expr, Error>
+    requires { level ≤ 12 }
+    ensures reads { (d : Dialect) (k : Frames) → Comes d (wants level (inside (behind_sign (sign_of sign) begin) k)) (λ x. has (B.means x) tokens.new.last k) tokens.old result tokens.new }
+    ensures shorter { OnOk result (length tokens.new.items < length tokens.old.items) }
+{
+    let operand = expression::<B>(tokens, level)?;
+    let span = tokens.since(begin);
+    Ok(B::signed(tokens.alloc(), sign, operand, span)?)
+}
+
+/// The parameters and the body of a lambda that begins there.
+#[cycle(expression)]
+pub(crate) fn lambda<B: Build>(tokens: &mut Tokens<'_>, begin: Pos) -> Result<B::Expr, Error>
+    ensures reads { (d : Dialect) (k : Frames) → Comes d (stands (member_wanted (before_body begin) tree.none false 0 0) k) (λ x. has (B.means x) tokens.new.last k) tokens.old result tokens.new }
+    ensures shorter { OnOk result (length tokens.new.items < length tokens.old.items) }
+{
+    let parameters = lambda_parameters::<B>(tokens)?;
+    let body = expression::<B>(tokens, 12)?;
+    let span = tokens.since(begin);
+    Ok(B::lambda(tokens.alloc(), parameters, body, span)?)
+}

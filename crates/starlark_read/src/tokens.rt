@@ -1,0 +1,294 @@
+//! The tokens of a text, with one token of look-ahead.
+
+ghost use Rattle.std.specs.Prelude.{◌≡◌, ◌≢◌, ◌≤◌, [], IfOk, MatchOption, Some, None, true, string_bytes, Err, max};
+ghost use Rattle.std.specs.Bool.{MatchBool};
+ghost use Rattle.starlark_place.specs.declared.pos.Spanned.{Spanned};
+ghost use Rattle.starlark_lexer.specs.Items.{item, lexeme_of, identifier, string};
+ghost use Rattle.starlark_rulebook.specs.declared.rule.Rule.{Rule};
+ghost use Rattle.starlark_read.specs.Asides.{ahead_end, aside_of};
+ghost use Rattle.starlark_grammar.specs.Events.{conversion_end};
+ghost use Rattle.starlark_read.specs.Gathered.{conversion_ahead};
+ghost use Rattle.starlark_read.specs.Kinds.{kind_ahead, is_plain, token_of};
+ghost use Rattle.starlark_grammar.specs.Language.{uncommented};
+ghost use Rattle.starlark_grammar.specs.Nodes.{start};
+ghost use Rattle.starlark_grammar.specs.Spans.{stretch};
+ghost use Rattle.starlark_grammar.specs.Verdicts.{begins_test};
+ghost use Rattle.starlark_read.specs.Refused.{fault_ahead, fault_of};
+ghost use Rattle.starlark_read.specs.Reads.{left_of, with_ahead, first_lexeme, grade_ahead, name_ahead, string_ahead, Passes};
+
+use crate::cost::Cost;
+use crate::error::Error;
+use crate::feed::{Feed, Lookahead};
+use crate::kind::{Kind, kind_of};
+use crate::refused::Refused;
+use crate::told::Comments;
+use starlark_lexer::token::Token;
+use starlark_place::pos::{Pos, Span, Spanned};
+use std::alloc::{AllocError, Global};
+use std::marker::Model;
+use std::mem;
+
+/// The tokens that are still to be read, comments left out. A clause sees them, the fault behind them, where the last one
+/// ends that was read, and what is told of the whole text beside them.
+#[derive(Drop)]
+pub(crate) struct Tokens<'a> {
+    alloc: Global,
+    feed: Feed<'a>,
+    ahead: Lookahead,
+    last: Pos,
+}
+
+impl<'a> Model for Tokens<'a> {
+    ghost use Rattle.starlark_read.specs.Counted.{left_in, IsCounted};
+    ghost use Rattle.starlark_read.specs.Reads.{Left};
+
+    ghost Value = { Left };
+
+    ghost view = { left_in };
+
+    ghost invariant = { IsCounted };
+}
+
+/// The place itself, whose end is not before its beginning.
+fn place(span: &Span) -> Span
+    ensures { result ≡ stretch span.now.begin span.now.end }
+{
+    Span::new(span.begin(), span.end())
+}
+
+impl<'a> Tokens<'a> {
+    /// What the lexer gave first, and all that it has left.
+    pub(crate) fn new(alloc: Global, feed: Feed<'a>, ahead: Lookahead) -> Tokens<'a>
+        requires asked { 1 ≤ feed.asks }
+        requires reached { ahead_end ahead ≤ feed.lexer.place }
+        ensures { result ≡ left_of 0 (with_ahead ahead (uncommented feed.entry.lexer.left)) (aside_of ahead feed.entry) }
+    {
+        Tokens {
+            alloc,
+            feed,
+            ahead,
+            last: Pos::new(0),
+        }
+    }
+
+    /// What the reading took so far.
+    pub(crate) fn cost(&self) -> Cost
+        ensures some { 1 ≤ result.asks }
+        ensures most { result.asks ≤ self.now.aside.asks }
+        ensures whole { self.now.items ≡ [] → result.asks ≡ self.now.aside.asks }
+        ensures reads { self.now.last ≤ result.reads }
+    {
+        self.feed.cost()
+    }
+
+    /// The comments of the text, where no token is left.
+    pub(crate) fn into_comments(self) -> Comments
+        ensures places { self.entry.items ≡ [] → result.places.items ≡ self.entry.aside.comments }
+        ensures joined { self.entry.items ≡ [] → result.joined.items ≡ self.entry.aside.joined }
+    {
+        self.feed.into_comments()
+    }
+
+    /// Where memory comes from.
+    pub(crate) fn alloc(&self) -> Global {
+        self.alloc
+    }
+
+    /// Why what stands ahead is refused: a token, the lexer's fault, or the end.
+    pub(crate) fn refusal(&self) -> Refused
+        ensures { fault_of result ≡ Some (fault_ahead self.now) }
+    {
+        match &self.ahead {
+            Lookahead::Token(span, _) => Refused::Unexpected(place(span)),
+            Lookahead::Fault(error, span) => Refused::Lexer(*error, place(span)),
+            Lookahead::End => Refused::UnexpectedEnd(self.last),
+        }
+    }
+
+    /// The lexer's fault, where it stands ahead.
+    pub(crate) fn fault(&self) -> Option<Refused>
+        ensures { MatchOption result (self.now.items ≡ [] → self.now.fault ≡ None) (λ e. (self.now.fault ≢ None) × (fault_of e ≡ Some (fault_ahead self.now))) }
+    {
+        match &self.ahead {
+            Lookahead::Fault(error, span) => Some(Refused::Lexer(*error, place(span))),
+            _ => None,
+        }
+    }
+
+    /// The kind of what stands ahead.
+    pub(crate) fn kind(&self) -> Kind
+        ensures { result ≡ kind_ahead self.now.items }
+    {
+        match &self.ahead {
+            Lookahead::Token(_, token) => kind_of(token),
+            _ => Kind::End,
+        }
+    }
+
+    /// Where the next token begins, or 0 where none is left.
+    pub(crate) fn begin(&self) -> Pos
+        ensures { result ≡ start self.now.items }
+    {
+        match &self.ahead {
+            Lookahead::Token(span, _) => span.begin(),
+            _ => Pos::new(0),
+        }
+    }
+
+    /// Where the last token ends that was read.
+    pub(crate) fn last(&self) -> Pos
+        ensures { result ≡ self.now.last }
+    {
+        self.last
+    }
+
+    /// From a place to the end of the last token that was read.
+    pub(crate) fn since(&self, begin: Pos) -> Span
+        ensures { result ≡ stretch begin self.now.last }
+    {
+        Span::new(begin, begin.max(self.last))
+    }
+
+    /// Whether the next token begins an expression.
+    pub(crate) fn begins_test(&self) -> bool
+        ensures { result ≡ begins_test self.now.items }
+    {
+        match self.kind() {
+            Kind::Identifier | Kind::Int | Kind::Float | Kind::String | Kind::Bytes => true,
+            Kind::Ellipsis | Kind::FStringStart | Kind::Lambda | Kind::Not => true,
+            Kind::OpeningRound | Kind::OpeningSquare | Kind::OpeningCurly => true,
+            Kind::Plus | Kind::Minus | Kind::Tilde => true,
+            _ => false,
+        }
+    }
+
+    /// The level of the suffix or the operator that stands ahead, or 13.
+    pub(crate) fn grade(&self) -> u8
+        ensures { result ≡ grade_ahead self.now.items }
+    {
+        match self.kind() {
+            Kind::Dot | Kind::OpeningRound | Kind::OpeningSquare => 0,
+            Kind::Star | Kind::Slash | Kind::SlashSlash | Kind::Percent => 2,
+            Kind::Plus | Kind::Minus => 3,
+            Kind::LessLess | Kind::GreaterGreater => 4,
+            Kind::Ampersand => 5,
+            Kind::Caret => 6,
+            Kind::Pipe => 7,
+            Kind::EqualEqual | Kind::BangEqual | Kind::LessThan | Kind::GreaterThan => 8,
+            Kind::LessEqual | Kind::GreaterEqual | Kind::In | Kind::Not => 8,
+            Kind::And => 10,
+            Kind::Or => 11,
+            Kind::If => 12,
+            _ => 13,
+        }
+    }
+
+    /// What a field of an f-string holds in its format where the next token is `s` or `r`, behind `!`.
+    pub(crate) fn conversion(&self) -> Option<&'static str>
+        ensures { MatchOption result (conversion_ahead self.now.items ≡ None) (λ s. conversion_ahead self.now.items ≡ Some s.now) }
+    {
+        let Lookahead::Token(_, Token::Identifier(name)) = &self.ahead else {
+            return None;
+        };
+        match name.as_str() {
+            "s" => Some("{}"),
+            "r" => Some("{!r}"),
+            _ => None,
+        }
+    }
+
+    /// From the `!` of a field, which was read last, to the end of an identifier behind it, or to any other token.
+    pub(crate) fn conversion_place(&self, begin: Pos) -> Span
+        ensures { result ≡ stretch begin (conversion_end (max begin self.now.last) self.now.items) }
+    {
+        let end = match &self.ahead {
+            Lookahead::Token(span, Token::Identifier(_)) => span.end(),
+            Lookahead::Token(span, _) => span.begin(),
+            _ => begin.max(self.last),
+        };
+        Span::new(begin, begin.max(end))
+    }
+
+    /// Reads the next token.
+    pub(crate) fn next(&mut self) -> Result<Option<(Token, Span)>, AllocError>
+        ensures { IfOk result (λ o. MatchOption o ((self.old.items ≡ []) × (self.new ≡ self.old)) (λ x. Passes self.old (item x.1.begin (lexeme_of x.0) x.1.end) self.new)) }
+    {
+        match mem::replace(&mut self.ahead, Lookahead::End) {
+            Lookahead::Token(span, token) => {
+                self.ahead = self.feed.fetch()?;
+                self.last = span.end();
+                Ok(Some((token, span)))
+            }
+            other => {
+                self.ahead = other;
+                Ok(None)
+            }
+        }
+    }
+
+    /// Whether the next token is of that kind, which has no payload.
+    pub(crate) fn stands(&self, want: Kind) -> bool
+        requires { is_plain want ≡ true }
+        ensures { MatchBool result (first_lexeme self.now.items ≡ Some (token_of want)) (first_lexeme self.now.items ≢ Some (token_of want)) }
+    {
+        self.kind() == want
+    }
+
+    /// Reads the next token if it is of that kind, which has no payload.
+    pub(crate) fn accept(&mut self, want: Kind) -> Result<bool, AllocError>
+        requires { is_plain want ≡ true }
+        ensures { IfOk result (λ b. MatchBool b (Passes self.old (item (start self.old.items) (token_of want) self.new.last) self.new) ((self.new ≡ self.old) × (first_lexeme self.old.items ≢ Some (token_of want)))) }
+    {
+        if !self.stands(want) {
+            return Ok(false);
+        }
+        let _read = self.next()?;
+        Ok(true)
+    }
+
+    /// Reads the next token, which has to be of that kind, one without payload.
+    pub(crate) fn expect(&mut self, want: Kind) -> Result<(), Error>
+        requires { is_plain want ≡ true }
+        ensures read { IfOk result (λ u. Passes self.old (item (start self.old.items) (token_of want) self.new.last) self.new) }
+        ensures unread { result ≡ Err Error.Unexpected → (self.new ≡ self.old) × (first_lexeme self.old.items ≢ Some (token_of want)) }
+        ensures no_rule { (f : Spanned Rule) → result ≡ Err (Error.Broken f) → ⊥ }
+    {
+        if self.accept(want)? {
+            Ok(())
+        } else {
+            Err(Error::Unexpected)
+        }
+    }
+
+    /// Reads an identifier, if one stands ahead.
+    pub(crate) fn identifier(&mut self) -> Result<Option<Spanned<String>>, AllocError>
+        ensures { IfOk result (λ o. MatchOption o ((self.new ≡ self.old) × (name_ahead self.old.items ≡ None)) (λ s. Passes self.old (item s.span.begin (identifier (string_bytes s.node)) s.span.end) self.new)) }
+    {
+        if self.kind() != Kind::Identifier {
+            return Ok(None);
+        }
+        let Some((token, span)) = self.next()? else {
+            unreachable!();
+        };
+        match token {
+            Token::Identifier(node) => Ok(Some(Spanned { span, node })),
+            _ => unreachable!(),
+        }
+    }
+
+    /// Reads a literal of text, if one stands ahead.
+    pub(crate) fn string(&mut self) -> Result<Option<Spanned<String>>, AllocError>
+        ensures { IfOk result (λ o. MatchOption o ((self.new ≡ self.old) × (string_ahead self.old.items ≡ None)) (λ s. Passes self.old (item s.span.begin (string (string_bytes s.node)) s.span.end) self.new)) }
+    {
+        if self.kind() != Kind::String {
+            return Ok(None);
+        }
+        let Some((token, span)) = self.next()? else {
+            unreachable!();
+        };
+        match token {
+            Token::String(node) => Ok(Some(Spanned { span, node })),
+            _ => unreachable!(),
+        }
+    }
+}

@@ -1,0 +1,9 @@
+pub mod Calls
+pub mod Found
+pub mod Kept
+pub mod Late
+pub mod Parameters
+pub mod Rules
+pub mod Targets
+pub mod Types
+pub mod View

@@ -1,0 +1,31 @@
+//! What is found, and the refusal for it.
+
+ghost use Rattle.std.specs.Prelude.{◌≡◌, if◌then◌else◌, Some, None};
+ghost use Rattle.starlark_place.specs.Place.{Holds};
+ghost use Rattle.starlark_rulebook.specs.Rules.{breaks};
+ghost use Rattle.starlark_rulebook.specs.View.{RefusesFor, finding_of, maybe_finding, rule_view};
+
+use starlark_place::codemap::CodeMap;
+use starlark_place::diagnostic::Refusal;
+use starlark_place::pos::{Span, Spanned};
+use starlark_rulebook::rule::{Rule, RuleException};
+use std::alloc::Global;
+
+/// The rule at its place, where it is broken.
+pub(crate) fn broken_if(broken: bool, rule: Rule, span: Span) -> Option<Spanned<Rule>>
+    ensures { maybe_finding result ≡ (if broken then Some (breaks (rule_view rule) span) else None) }
+{
+    if broken {
+        Some(Spanned { span, node: rule })
+    } else {
+        None
+    }
+}
+
+/// The refusal for what was found.
+pub(crate) fn refused(alloc: Global, found: Spanned<Rule>, codemap: &CodeMap) -> RuleException
+    requires { Holds codemap.now.source found.span }
+    ensures { RefusesFor (Some (finding_of found)) codemap.now result }
+{
+    Refusal::new(alloc, found.node, found.span, codemap)
+}

@@ -1,0 +1,9 @@
+use Rattle.std.proofs.Common.{refl}
+use Rattle.starlark_visit.proofs.Steps.{steps_stop, steps_then}
+use Rattle.starlark_visit.proofs.nodes.StmtPVisitChildrenAstStmtPAstExprP.lend_children.Goals as goal
+
+pub returns-in-Err-clause-calls : goal.returns-in-Err-clause-calls
+returns-in-Err-clause-calls g c = steps_stop g.V.NodeVisitor.leaves _ c.expr_nodes.ensures.calls c.in-Err.is refl
+
+pub returns-clause-calls : goal.returns-clause-calls
+returns-clause-calls g c = steps_then g.V.NodeVisitor.leaves c.expr_nodes.ensures.calls c.in_default.is c.stmt_nodes.ensures.calls

@@ -1,0 +1,16 @@
+use Rattle.std.proofs.lemmas.List.{nil_from_length}
+use Rattle.std.proofs.Common.{of_calls, refl, ap, flat_map}
+use Rattle.starlark_ast.specs.Calls.{lent}
+use Rattle.starlark_visit.proofs.Until.{until_none, until_at, until_then, until_stop}
+use Rattle.starlark_ast.specs.Places.{clause_places}
+use Rattle.starlark_visit.proofs.visit.clauses.Goals as goal
+
+pub returns-in-Err-clause-calls : goal.returns-in-Err-clause-calls
+returns-in-Err-clause-calls g c = c.loop-x.invariant.1 _ _ (until_at lent g.F.FnMut (ap (λ zs. flat_map clause_places zs) c.in-Some.ensures.cases.0) (until_stop lent g.F.FnMut _ c.visit_expr_err.ensures.calls c.in-Err.is refl))
+
+pub loop-x-preserved : goal.loop-x-preserved
+loop-x-preserved g c =
+    (search of_calls, λ r last h. c.loop-x.invariant.1 r last (until_at lent g.F.FnMut (ap (λ zs. flat_map clause_places zs) c.in-Some.ensures.cases.0) (until_then lent g.F.FnMut c.visit_expr_err.ensures.calls c.in_default-visit_expr_err.is h)))
+
+pub returns-clause-calls : goal.returns-clause-calls
+returns-clause-calls g c = c.loop-x.invariant.1 _ _ (until_at lent g.F.FnMut (ap (λ zs. flat_map clause_places zs) (nil_from_length _ c.in_default.ensures.cases)) (until_none lent g.F.FnMut refl))

@@ -1,0 +1,16 @@
+use Rattle.std.proofs.Common.{refl}
+use Rattle.starlark_ast.specs.Calls.{lent}
+use Rattle.starlark_visit.proofs.Until.{until_then, until_stop}
+use Rattle.starlark_visit.proofs.walk.assign.Goals as goal
+
+pub returns-in-Err-clause-calls : goal.returns-in-Err-clause-calls
+returns-in-Err-clause-calls g c =
+    until_stop lent g.F.FnMut _ c.target.ensures.calls c.in-Err.is refl
+
+pub returns-in-Err-held_type-clause-calls : goal.returns-in-Err-held_type-clause-calls
+returns-in-Err-held_type-clause-calls g c =
+    until_then lent g.F.FnMut c.target.ensures.calls c.in_default.is (until_stop lent g.F.FnMut _ c.held_type.ensures.calls c.in-Err-held_type.is refl)
+
+pub returns-clause-calls : goal.returns-clause-calls
+returns-clause-calls g c =
+    until_then lent g.F.FnMut c.target.ensures.calls c.in_default.is (until_then lent g.F.FnMut c.held_type.ensures.calls c.in_default-held_type.is c.one.ensures.calls)

@@ -1,0 +1,4 @@
+pub mod Idents
+pub mod Listed
+pub mod Steps
+pub mod Visited
