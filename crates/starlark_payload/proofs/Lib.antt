@@ -1,4 +1,5 @@
 pub mod Answering
+pub mod FStrings
 pub mod Listed
 pub mod Loops
 pub mod Naming

@@ -31,7 +31,7 @@ use Rattle.starlark_payload.specs.Weights.{argument_weight, argument_weights, bo
 use Rattle.starlark_payload.specs.declared.nodes.AroundMany.TheVariants as many
 use Rattle.starlark_payload.specs.declared.nodes.Starred.TheVariants as starred
 
-total-map : {X Y : Type 0} (w : Y → ℕ) (f : X → Y) (xs : List X) → total w (map f xs) ≡ total (λ x. w (f x)) xs
+pub total-map : {X Y : Type 0} (w : Y → ℕ) (f : X → Y) (xs : List X) → total w (map f xs) ≡ total (λ x. w (f x)) xs
 total-map w f [] = refl
 total-map w f (x ∷ xs) = ap (λ q. suc (w (f x) + q)) (total-map w f xs)
 

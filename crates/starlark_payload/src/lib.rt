@@ -2,10 +2,13 @@
 #![tactic(auto)]
 
 mod boxes;
+mod f_strings;
 mod makers;
 mod mapping;
 mod names;
 pub mod nodes;
 mod openers;
 pub mod payload_map;
-mod trees;
+pub mod placed_maps;
+mod shapes;
+pub mod tree_maps;

@@ -1,15 +1,16 @@
 use Rattle.std.proofs.Common.{arith, sym, ap, ◌∙◌, List, Option, string_bytes}
+use Rattle.std.proofs.lemmas.List.{nil_from_length}
 use Rattle.std.specs.Option.{option_map}
 use Rattle.starlark_ast.specs.Tree as tree
-use Rattle.starlark_payload.specs.Around.{annotation_of, argument_of, bound_of, both_at, clauses_of, one_view, stars_of, three_view, two_view}
-use Rattle.starlark_ast.specs.View.{members}
+use Rattle.starlark_payload.specs.Around.{annotation_of, argument_of, bound_of, both_at, both_view, clauses_of, many_view, marker_of, one_view, stars_of, three_view, two_view}
 use Rattle.starlark_payload.specs.Around.{same_member}
-use Rattle.starlark_payload.specs.Payloads.{OfDef, OfType}
-use Rattle.starlark_payload.specs.Weights.{both_weight, node_weight}
 use Rattle.starlark_payload.proofs.Answering.{answers_append, begins_all}
 use Rattle.starlark_payload.proofs.Loops.{done_called, done_kept, done_more, done_none, done_stops, done_weighs}
 use Rattle.starlark_place.specs.Place.{Extent}
-use Rattle.starlark_payload.proofs.Parts.{behind, both, late, made, made_maybe, name_leaf, named, stops, stops_behind, stops_first, with}
+use Rattle.starlark_payload.proofs.Parts.{behind, both, late, made, made_maybe, name_leaf, named, plain, stops, stops_behind, stops_first, with}
+use Rattle.starlark_payload.specs.Weights.{argument_weight, both_weight, clause_weight, expr_weight, node_weight, parameter_weight, target_weight}
+use Rattle.starlark_payload.specs.Payloads.{OfDef, OfType, argument_payloads, expr_payloads, for_clause_payloads, parameter_payloads, target_payloads, type_payloads}
+use Rattle.starlark_ast.specs.View.{argument_view, expr_view, for_clause_view, literal_view, members, parameter_view, target_view, type_view}
 use Rattle.starlark_payload.proofs.mapping.+mapping.Goals as goal
 
 pub expression-returns-in_ok-x-in-One : goal.expression-returns-in_ok-x-in-One
@@ -97,7 +98,7 @@ pub expression-returns-in_ok-rest-in-DictComprehension : goal.expression-returns
 expression-returns-in_ok-rest-in-DictComprehension g n c = made_maybe _ _ c.dict_comprehension.result (λ (q : (tree.Expr × tree.Expr) × (tree.Clause × List tree.Clause)). tree.comprehension (tree.pair q.0.0 q.0.1) (clauses_of q.1.0 q.1.1)) (both (both c.in_ok-x-in-DictComprehension.ensures c.in_ok-y-in-DictComprehension.ensures) (both c.in_ok-first-in-DictComprehension.ensures c.in_ok-rest-in-DictComprehension.ensures)) c.open_dict_comprehension-x.ensures.kept c.open_dict_comprehension-x.ensures.payloads c.dict_comprehension.ensures.kept c.dict_comprehension.ensures.payloads
 
 pub type_expr-returns : goal.type_expr-returns
-type_expr-returns g n c = made g.M.Nodes.type_view g.M.Nodes.type_payloads c.type_expr.result (λ (q : tree.Expr). tree.typed q) (behind (OfType c.open_type_expr-x.result.1) (OfType c.map_type_expr.result) c.in_ok-x.ensures c.map_type_expr.ensures) c.open_type_expr-x.ensures.kept c.open_type_expr-x.ensures.payloads c.type_expr.ensures.kept c.type_expr.ensures.payloads
+type_expr-returns g n c = made type_view type_payloads c.type_expr.result (λ (q : tree.Expr). tree.typed q) (behind (OfType c.open_type_expr-x.result.1) (OfType c.map_type_expr.result) c.in_ok-x.ensures c.map_type_expr.ensures) c.open_type_expr-x.ensures.kept c.open_type_expr-x.ensures.payloads c.type_expr.ensures.kept c.type_expr.ensures.payloads
 
 pub type_expr-returns-in_err-x : goal.type_expr-returns-in_err-x
 type_expr-returns-in_err-x g n c = late _ _ _ _ _ c.from_residual.ensures.1 (stops c.open_type_expr-x.ensures.payloads (stops_first _ c.in_err-x.ensures))
@@ -130,7 +131,7 @@ pub target-returns-in_ok-x-in-Dot : goal.target-returns-in_ok-x-in-Dot
 target-returns-in_ok-x-in-Dot g n c = made_maybe _ _ c.target_dot.result (λ (q : tree.Expr). tree.dot q (string_bytes c.open_target_dot-x.result.1.node) c.open_target_dot-x.result.1.span) c.in_ok-x-in-Dot.ensures c.open_target_dot-x.ensures.kept c.open_target_dot-x.ensures.payloads c.target_dot.ensures.kept c.target_dot.ensures.payloads
 
 pub target-returns-in-Name : goal.target-returns-in-Name
-target-returns-in-Name g n c = made g.M.Nodes.target_view g.M.Nodes.target_payloads c.target_name.result name_leaf c.assigned.ensures c.open_target_name.ensures.kept c.open_target_name.ensures.payloads c.target_name.ensures.kept c.target_name.ensures.payloads
+target-returns-in-Name g n c = made target_view target_payloads c.target_name.result name_leaf c.assigned.ensures c.open_target_name.ensures.kept c.open_target_name.ensures.payloads c.target_name.ensures.kept c.target_name.ensures.payloads
 
 pub for_clause-returns-in_err-node : goal.for_clause-returns-in_err-node
 for_clause-returns-in_err-node g n c = late _ _ _ _ _ c.from_residual.ensures.1 (stops c.open_for_clause-var.ensures.payloads (stops_first _ c.in_err-node.ensures))
@@ -139,13 +140,13 @@ pub for_clause-returns-in_err-over : goal.for_clause-returns-in_err-over
 for_clause-returns-in_err-over g n c = late _ _ _ _ _ c.from_residual-in_err-over.ensures.1 (stops c.open_for_clause-var.ensures.payloads (stops_behind c.in_ok-node.ensures c.in_err-over.ensures))
 
 pub for_clause-returns : goal.for_clause-returns
-for_clause-returns g n c = made g.M.Nodes.for_view g.M.Nodes.for_payloads c.for_clause.result (λ (q : tree.Expr × tree.Expr). tree.for_clause q.0 q.1) (both (with (λ (q : Extent → tree.Expr). q c.open_for_clause-var.result.0.span) c.in_ok-node.ensures) c.in_ok-over.ensures) c.open_for_clause-var.ensures.kept c.open_for_clause-var.ensures.payloads c.for_clause.ensures.kept c.for_clause.ensures.payloads
+for_clause-returns g n c = made for_clause_view for_clause_payloads c.for_clause.result (λ (q : tree.Expr × tree.Expr). tree.for_clause q.0 q.1) (both (with (λ (q : Extent → tree.Expr). q c.open_for_clause-var.result.0.span) c.in_ok-node.ensures) c.in_ok-over.ensures) c.open_for_clause-var.ensures.kept c.open_for_clause-var.ensures.payloads c.for_clause.ensures.kept c.for_clause.ensures.payloads
 
 pub expressions-loop-x-init : goal.expressions-loop-x-init
 expressions-loop-x-init g n c = done_none c.reverse.ensures.items c.new-done.ensures.items
 
 pub expressions-placed-requires : goal.expressions-placed-requires
-expressions-placed-requires g n c κs within = let less = done_weighs c.pop.new.self.items (node_weight g.N.Nodes.weight) c.loop-x.invariant c.in-Some.ensures.items in (omega (arith, less), within)
+expressions-placed-requires g n c κs within = let less = done_weighs c.pop.new.self.items (node_weight expr_weight) c.loop-x.invariant c.in-Some.ensures.items in (omega (arith, less), within)
 
 pub expressions-returns-in_err-y : goal.expressions-returns-in_err-y
 expressions-returns-in_err-y g n c = late _ _ _ _ _ c.from_residual.ensures.1 (done_stops c.pop.new.self.items c.loop-x.invariant c.in-Some.ensures.items c.in_err-y.ensures)
@@ -160,10 +161,10 @@ pub pairs-loop-x-init : goal.pairs-loop-x-init
 pairs-loop-x-init g n c = done_none c.reverse.ensures.items c.new-done.ensures.items
 
 pub pairs-placed-requires : goal.pairs-placed-requires
-pairs-placed-requires g n c κs within = let less = done_weighs c.pop.new.self.items (both_weight g.N.Nodes.weight) c.loop-x.invariant c.in-Some.ensures.items in (omega (arith, less), within)
+pairs-placed-requires g n c κs within = let less = done_weighs c.pop.new.self.items (both_weight expr_weight) c.loop-x.invariant c.in-Some.ensures.items in (omega (arith, less), within)
 
 pub pairs-placed-requires-in-Some : goal.pairs-placed-requires-in-Some
-pairs-placed-requires-in-Some g n c κs within = let less = done_weighs c.pop.new.self.items (both_weight g.N.Nodes.weight) c.loop-x.invariant c.in-Some.ensures.items in (omega (arith, less), within)
+pairs-placed-requires-in-Some g n c κs within = let less = done_weighs c.pop.new.self.items (both_weight expr_weight) c.loop-x.invariant c.in-Some.ensures.items in (omega (arith, less), within)
 
 pub pairs-returns-in_err-key : goal.pairs-returns-in_err-key
 pairs-returns-in_err-key g n c = late _ _ _ _ _ c.from_residual.ensures.1 (done_stops c.pop.new.self.items c.loop-x.invariant c.in-Some.ensures.items (stops_first _ c.in_err-key.ensures))
@@ -181,7 +182,7 @@ pub arguments-loop-x-init : goal.arguments-loop-x-init
 arguments-loop-x-init g n c = done_none c.reverse.ensures.items c.new-done.ensures.items
 
 pub arguments-argument-requires : goal.arguments-argument-requires
-arguments-argument-requires g n c κs within = let less = done_weighs c.pop.new.self.items (node_weight g.N.Nodes.argument_weight) c.loop-x.invariant c.in-Some.ensures.items in (omega (arith, less), within)
+arguments-argument-requires g n c κs within = let less = done_weighs c.pop.new.self.items (node_weight argument_weight) c.loop-x.invariant c.in-Some.ensures.items in (omega (arith, less), within)
 
 pub arguments-returns-in_err-node : goal.arguments-returns-in_err-node
 arguments-returns-in_err-node g n c = late _ _ _ _ _ c.from_residual.ensures.1 (done_stops c.pop.new.self.items c.loop-x.invariant c.in-Some.ensures.items c.in_err-node.ensures)
@@ -196,7 +197,7 @@ pub parameters-loop-x-init : goal.parameters-loop-x-init
 parameters-loop-x-init g n c = done_none c.reverse.ensures.items c.new-done.ensures.items
 
 pub parameters-parameter-requires : goal.parameters-parameter-requires
-parameters-parameter-requires g n c κs within = let less = done_weighs c.pop.new.self.items (node_weight g.N.Nodes.parameter_weight) c.loop-x.invariant c.in-Some.ensures.items in (omega (arith, less), within)
+parameters-parameter-requires g n c κs within = let less = done_weighs c.pop.new.self.items (node_weight parameter_weight) c.loop-x.invariant c.in-Some.ensures.items in (omega (arith, less), within)
 
 pub parameters-returns-in_err-node : goal.parameters-returns-in_err-node
 parameters-returns-in_err-node g n c = late _ _ _ _ _ c.from_residual.ensures.1 (done_stops c.pop.new.self.items c.loop-x.invariant c.in-Some.ensures.items c.in_err-node.ensures)
@@ -211,7 +212,7 @@ pub targets-loop-x-init : goal.targets-loop-x-init
 targets-loop-x-init g n c = done_none c.reverse.ensures.items c.new-done.ensures.items
 
 pub targets-target-requires : goal.targets-target-requires
-targets-target-requires g n c κs within = let less = done_weighs c.pop.new.self.items (node_weight g.N.Nodes.target_weight) c.loop-x.invariant c.in-Some.ensures.items in (omega (arith, less), within)
+targets-target-requires g n c κs within = let less = done_weighs c.pop.new.self.items (node_weight target_weight) c.loop-x.invariant c.in-Some.ensures.items in (omega (arith, less), within)
 
 pub targets-returns-in_err-node : goal.targets-returns-in_err-node
 targets-returns-in_err-node g n c = late _ _ _ _ _ c.from_residual.ensures.1 (done_stops c.pop.new.self.items c.loop-x.invariant c.in-Some.ensures.items c.in_err-node.ensures)
@@ -226,7 +227,7 @@ pub clauses-loop-x-init : goal.clauses-loop-x-init
 clauses-loop-x-init g n c = done_none c.reverse.ensures.items c.new-done.ensures.items
 
 pub clauses-clause-requires : goal.clauses-clause-requires
-clauses-clause-requires g n c κs within = let less = done_weighs c.pop.new.self.items g.N.Nodes.clause_weight c.loop-x.invariant c.in-Some.ensures.items in (omega (arith, less), within)
+clauses-clause-requires g n c κs within = let less = done_weighs c.pop.new.self.items clause_weight c.loop-x.invariant c.in-Some.ensures.items in (omega (arith, less), within)
 
 pub clauses-returns-in_err-y : goal.clauses-returns-in_err-y
 clauses-returns-in_err-y g n c = late _ _ _ _ _ c.from_residual.ensures.1 (done_stops c.pop.new.self.items c.loop-x.invariant c.in-Some.ensures.items c.in_err-y.ensures)
@@ -236,3 +237,30 @@ clauses-loop-x-preserved g n c = done_more c.pop.new.self.items c.loop-x.invaria
 
 pub clauses-returns-in_err-push : goal.clauses-returns-in_err-push
 clauses-returns-in_err-push g n c = late _ _ _ _ _ c.from_residual-in_err-push.ensures.1 (done_stops c.pop.new.self.items c.loop-x.invariant c.in-Some.ensures.items (begins_all _ c.in_ok-y.ensures.called))
+
+pub placed-returns : goal.placed-returns
+placed-returns g n c = with (λ (q : Extent → tree.Expr). q c.args.x.span) c.in_ok-node.ensures
+
+pub argument-returns : goal.argument-returns
+argument-returns g n c = made argument_view argument_payloads c.argument.result (λ (q : tree.Expr). argument_of c.open_argument-around.result.0 q) c.in_ok-x.ensures c.open_argument-around.ensures.kept c.open_argument-around.ensures.payloads c.argument.ensures.kept c.argument.ensures.payloads
+
+pub clauses-returns : goal.clauses-returns
+clauses-returns g n c = let none = nil_from_length c.loop-x.rest.items (sym c.loop-x.rest.ok.0 ∙ c.in_default.ensures.cases.0) in record { kept = done_kept c.loop-x.invariant none; called = done_called c.loop-x.invariant none }
+
+pub expression-returns-in-Literal : goal.expression-returns-in-Literal
+expression-returns-in-Literal g n c = made expr_view expr_payloads c.literal.result (λ (q : Extent → tree.Expr). q) (plain (literal_view c.open_literal.result)) c.open_literal.ensures.kept c.open_literal.ensures.payloads c.literal.ensures.kept c.literal.ensures.payloads
+
+pub expression-returns-in-Name : goal.expression-returns-in-Name
+expression-returns-in-Name g n c = made expr_view expr_payloads c.name-in-Name.result (λ (q : Extent → tree.Expr). q) c.name.ensures c.open_name.ensures.kept c.open_name.ensures.payloads c.name-in-Name.ensures.kept c.name-in-Name.ensures.payloads
+
+pub expression-returns-in_ok-xs-in-Many : goal.expression-returns-in_ok-xs-in-Many
+expression-returns-in_ok-xs-in-Many g n c = made expr_view expr_payloads c.many.result (λ (q : List tree.Expr). many_view c.open_many-around.result.0 q) c.in_ok-xs-in-Many.ensures c.open_many-around.ensures.kept c.open_many-around.ensures.payloads c.many.ensures.kept c.many.ensures.payloads
+
+pub expression-returns-in_ok-pairs-in-Dict : goal.expression-returns-in_ok-pairs-in-Dict
+expression-returns-in_ok-pairs-in-Dict g n c = made expr_view expr_payloads c.dict.result (λ (q : List (tree.Expr × tree.Expr)). tree.dict (members both_view q)) c.in_ok-pairs-in-Dict.ensures c.open_dict.ensures.kept c.open_dict.ensures.payloads c.dict.ensures.kept c.dict.ensures.payloads
+
+pub parameter-returns-in-Marker : goal.parameter-returns-in-Marker
+parameter-returns-in-Marker g n c = made parameter_view parameter_payloads c.marker.result (λ (q : Extent → tree.Member). q) (plain (marker_of c.open_marker.result)) c.open_marker.ensures.kept c.open_marker.ensures.payloads c.marker.ensures.kept c.marker.ensures.payloads
+
+pub target-returns-in_ok-targets-in-Tuple : goal.target-returns-in_ok-targets-in-Tuple
+target-returns-in_ok-targets-in-Tuple g n c = made target_view target_payloads c.target_tuple.result (λ (q : List tree.Expr). tree.tuple (members tree.item q)) c.in_ok-targets-in-Tuple.ensures c.open_target_tuple.ensures.kept c.open_target_tuple.ensures.payloads c.target_tuple.ensures.kept c.target_tuple.ensures.payloads
