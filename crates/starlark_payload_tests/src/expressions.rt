@@ -1,0 +1,56 @@
+//! Payload maps of expressions. Trees are forgotten in the end: how they are let go is proved anew in each
+//! crate that does so.
+
+use crate::common::{Counter, Numbered, assigned, read};
+use starlark_ast::ast::{AstExpr, AstExprP, Expr, ExprP, LambdaP, ParameterP};
+use starlark_ast::making::ToAst;
+use starlark_payload::placed_maps::ExprPExt;
+use std::alloc::{AllocError, Global};
+use std::mem;
+use std::test::Fail;
+
+// `lambda x: y`
+fn lambda(alloc: Global) -> Result<AstExpr, AllocError> {
+    let param = ParameterP::Normal(assigned(alloc, "x")?.ast(11, 12), None, None).ast(11, 12);
+    let body = ExprP::Identifier(read(alloc, "y")?.ast(14, 15)).ast(14, 15);
+    let body = Box::new(alloc, body)?;
+    let params = vec![in alloc; param]?;
+    let node: Expr = ExprP::Lambda(LambdaP {
+        params,
+        body,
+        payload: (),
+    });
+    Ok(node.ast(4, 15))
+}
+
+// what the lambda's parameter, its body and itself were given
+fn numbers_of_lambda(x: &AstExprP<Numbered>) -> u32 {
+    let ExprP::Lambda(x) = &x.node else {
+        return 999;
+    };
+    let mut number = 0u32;
+    for param in &x.params {
+        if let ParameterP::Normal(name, _, _) = &param.node {
+            number = u32::from(name.node.payload);
+        }
+    }
+    if let ExprP::Identifier(name) = &x.body.node {
+        number = number
+            .wrapping_mul(10)
+            .wrapping_add(u32::from(name.node.payload));
+    }
+    number.wrapping_mul(10).wrapping_add(u32::from(x.payload))
+}
+
+#[test]
+fn a_lambda(rt: HostRuntime) -> Result<(), Fail> {
+    let alloc = rt.alloc();
+    let mut counter = Counter::new();
+    let tree = lambda(alloc)?;
+    let tree: AstExprP<Numbered> = ExprPExt::into_map_payload(tree, alloc, &mut counter)?;
+    // the parameter 0, the body 1, the lambda 2
+    assert_eq!(rt; numbers_of_lambda(&tree), 12);
+    assert_eq!(rt; counter.next, 3);
+    mem::forget(tree);
+    Ok(())
+}
