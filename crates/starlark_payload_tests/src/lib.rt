@@ -7,3 +7,5 @@ mod common;
 mod expressions;
 #[cfg(test)]
 mod maps;
+#[cfg(test)]
+mod parts;
