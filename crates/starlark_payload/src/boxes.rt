@@ -110,17 +110,3 @@ pub(crate) fn boxed_with_three<T: Drop>(
     let c = maybe_boxed(alloc, c)?;
     Ok((x, a, b, c))
 }
-
-/// The first of three values in a box, and the second, if there is one.
-pub(crate) fn boxed_and_maybe<T: Drop, U: Drop, R: Drop>(
-    alloc: Global,
-    x: T,
-    y: Option<U>,
-    rest: R,
-) -> Result<(Box<T>, Option<Box<U>>, R), AllocError>
-    ensures { IfOk result (λ b. (b.0.value ≡ x) × (unboxed b.1 ≡ y) × (b.2 ≡ rest)) }
-{
-    let x = boxed(alloc, x)?;
-    let y = maybe_boxed(alloc, y)?;
-    Ok((x, y, rest))
-}
