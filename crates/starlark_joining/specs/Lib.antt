@@ -1,0 +1,4 @@
+pub mod Joined
+pub mod Kept
+pub mod Same
+pub mod Trees

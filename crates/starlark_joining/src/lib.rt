@@ -1,0 +1,4 @@
+//! Laws of a text behind another.
+#![tactic(auto)]
+
+pub mod laws;
