@@ -3,6 +3,11 @@ pub mod Closed
 pub mod Flat
 pub mod Walks
 pub mod Held
+pub mod JoinedPlaces
+pub mod JoinedTrees
+pub mod JoinedOutlines
+pub mod OneOutline
+pub mod JoinedStatements
 pub mod Keeping
 pub mod Reading
 pub mod Spending

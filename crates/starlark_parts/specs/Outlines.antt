@@ -63,3 +63,10 @@ pub record AreStatements (dialect : Dialect) (text : List ℕ) (xs : List Placed
 pub data AreAllStatements (dialect : Dialect) : ℕ → List (List ℕ) → List Placed → Type 0 where
   no_statements : {n : ℕ} → AreAllStatements dialect n [] []
   and_statements : {n : ℕ} {text : List ℕ} {texts : List (List ℕ)} {xs ys : List Placed} → AreStatements dialect text xs → AreAllStatements dialect (n + line_feeds text) texts ys → AreAllStatements dialect n (text ∷ texts) (all_down n xs ++ ys)
+
+-- The statements show the outline of the text: they have its words, and its beginnings, in order.
+pub record ShowOutline (dialect : Dialect) (text : List ℕ) (xs : List Placed) : Type 0 where
+  pub items : List OutlineItem
+  pub outline : IsOutline dialect text items
+  pub words : map (λ x. word_of x.statement) xs ≡ map (λ y. Some y.word) items
+  pub begins : map (λ x. x.begin) xs ≡ map (λ y. y.begin) items

@@ -1,10 +1,18 @@
-//! Laws of the trees of texts.
+//! Laws of the trees and the outlines of texts.
 
-ghost use Rattle.std.specs.Prelude.{List, ℕ};
+ghost use Rattle.std.specs.Prelude.{List, ℕ, ◌≡◌};
+ghost use Rattle.std.specs.List.{All};
+ghost use Rattle.starlark_lexer.specs.Joining.{IsClosed};
 ghost use Rattle.starlark_lexer.specs.declared.dialect.Dialect.{Dialect};
 ghost use Rattle.starlark_ast.specs.Tree.{Statement};
 ghost use Rattle.starlark_grammar.specs.Language.{Language};
 ghost use Rattle.starlark_parts.specs.Flat.{AreWorded, IsFlat};
+ghost use Rattle.starlark_parts.specs.Kept.{joined};
+ghost use Rattle.starlark_parts.specs.Outlines.{AreOutlines, IsOutline};
+ghost use Rattle.starlark_parts.specs.declared.word.OutlineItem.{OutlineItem};
+
+use starlark_grammar::text_laws::{nested_places, one_tree};
+use starlark_joining::laws::joined_trees;
 
 /// The tree of a text is one line or a list of lines, and a line one statement or a list of statements; and each of these
 /// statements has a word: none is a `return`, a `break` or a `continue`.
@@ -12,3 +20,27 @@ pub fn good_trees()
     ensures flat { (dialect : Dialect) (text : List ℕ) (tree : Statement) → Language dialect text tree → IsFlat tree }
     ensures worded { (dialect : Dialect) (text : List ℕ) (tree : Statement) → Language dialect text tree → AreWorded tree }
 {}
+
+/// Closed texts of the language, one behind another, are in the language, and the outline of the joined text, read from
+/// scratch, is the outlines of the texts, each moved down by the line feeds before it.
+pub fn joined_outline()
+    ensures { (dialect : Dialect) (texts : List (List ℕ)) (items : List OutlineItem) → All IsClosed texts → AreOutlines dialect 0 texts items → IsOutline dialect (joined texts) items }
+{
+    joined_trees();
+    nested_places();
+}
+
+/// A text has one outline at most.
+pub fn one_outline()
+    ensures { (dialect : Dialect) (text : List ℕ) (xs ys : List OutlineItem) → IsOutline dialect text xs → IsOutline dialect text ys → xs ≡ ys }
+{
+    one_tree();
+}
+
+/// However a text is cut into closed texts of the language, their outlines, one behind another, are the same.
+pub fn same_text_same_outline()
+    ensures { (dialect : Dialect) (texts others : List (List ℕ)) (xs ys : List OutlineItem) → All IsClosed texts → All IsClosed others → joined texts ≡ joined others → AreOutlines dialect 0 texts xs → AreOutlines dialect 0 others ys → xs ≡ ys }
+{
+    joined_outline();
+    one_outline();
+}

@@ -4,11 +4,12 @@ ghost use Rattle.std.specs.Prelude.{◌≡◌, ◌<◌, ◌≤◌, [], IfOk, Mat
 ghost use Rattle.starlark_parts.specs.Edits.{Answers};
 ghost use Rattle.starlark_parts.specs.Kept.{inserts, joined, moves, removes, replaces};
 ghost use Rattle.starlark_parts.specs.Left.{statements_left};
-ghost use Rattle.starlark_parts.specs.Outlines.{AreAllStatements, AreOutlines};
+ghost use Rattle.starlark_parts.specs.Outlines.{AreAllStatements, IsOutline, ShowOutline};
 ghost use Rattle.starlark_parts.specs.Spent.{Spends, nothing_read};
 
 use crate::fault::PartFault;
 use crate::items::Items;
+use crate::laws::joined_outline;
 use crate::list;
 use crate::part::{Part, read_part};
 use crate::statements::Statements;
@@ -171,24 +172,28 @@ impl Parts {
         self.cost
     }
 
-    /// The statements at the top of all parts, in order, with their beginnings in the joined text. No memory is taken,
-    /// here and on the way.
+    /// The statements at the top of all parts, in order, with their beginnings in the joined text. They are those of each
+    /// part's own tree, with the places of that tree. No memory is taken, here and on the way.
     pub fn statements(&self) -> Statements<'_>
-        ensures { AreAllStatements self.now.dialect 0 self.now.texts (statements_left result) }
+        ensures parts { AreAllStatements self.now.dialect 0 self.now.texts (statements_left result) }
+        ensures joined { ShowOutline self.now.dialect (joined self.now.texts) (statements_left result) }
     {
+        joined_outline();
         Statements::of(self.parts.as_slice())
     }
 
-    /// The outline of the joined text, item by item. No memory is taken, here and on the way.
+    /// The outline of the joined text, item by item: what one gets who reads it from scratch. No memory is taken, here and
+    /// on the way.
     pub fn items(&self) -> Items<'_>
-        ensures { AreOutlines self.now.dialect 0 self.now.texts result }
+        ensures { IsOutline self.now.dialect (joined self.now.texts) result }
     {
+        joined_outline();
         Items::of(self.parts.as_slice())
     }
 
     /// The outline of the joined text. Want of memory is the only refusal.
     pub fn outline(&self) -> Result<Vec<OutlineItem>, AllocError>
-        ensures { IfOk result (λ v. AreOutlines self.now.dialect 0 self.now.texts v.items) }
+        ensures { IfOk result (λ v. IsOutline self.now.dialect (joined self.now.texts) v.items) }
     {
         self.items().collect(self.alloc)
     }

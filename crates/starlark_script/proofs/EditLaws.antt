@@ -1,8 +1,7 @@
--- What of outlines and edits can hold together.
+-- What of edits can hold together.
 use Rattle.std.proofs.Common.{◌≡◌, ◌<◌, ◌≤◌, ◌⊎◌, ℕ, ◌+◌, ◌++◌, List, length, map, inl, inr, zero, suc, [], ◌∷◌, Some, refl, ap, sym, ◌∙◌, arith, subst}
 use Rattle.std.specs.List.{insert, remove}
 use Rattle.std.specs.Str.{IsUtf8}
-use Rattle.starlark_place.specs.Place.{line_feeds}
 use Rattle.starlark_place.specs.Resolved.{resolved_span}
 use Rattle.starlark_place.specs.declared.resolved.ResolvedFileSpan.{ResolvedFileSpan}
 use Rattle.starlark_lexer.specs.declared.dialect.Dialect.{Dialect}
@@ -12,57 +11,16 @@ use Rattle.starlark_grammar.specs.Language.{Fault, IsRefused, Language, place_of
 use Rattle.starlark_parser.specs.declared.fault.ParserError.{ParserError}
 use Rattle.starlark_parts.specs.Edits.{IsAddressed, Refuses, Takes, Tells, index, utf8, long, parse, not_closed, memory}
 use Rattle.starlark_parts.specs.Kept.{Edit, edited, joined, text_of}
-use Rattle.starlark_parts.specs.Outlines.{AreItems, AreOutlines, IsOutline, items_down, no_texts, and_text}
 use Rattle.starlark_parts.specs.declared.fault.PartFault.{PartFault}
 use Rattle.starlark_parts.specs.declared.fault.PartFault.TheVariants as faults
-use Rattle.starlark_parts.specs.declared.word.OutlineItem.{OutlineItem}
-use Rattle.starlark_parts.specs.declared.word.Word.{Word}
 use Rattle.starlark_script.specs.Laws.{SayTheSame}
 
 -- the laws of the language that these stand on
-abbrev pub OneTree : Type 0
-OneTree = (dialect : Dialect) (text : List ℕ) (a b : Statement) → Language dialect text a → Language dialect text b → a ≡ b
-
 abbrev pub OneRefusal : Type 0
 OneRefusal = (dialect : Dialect) (text : List ℕ) (f g : Fault) → IsRefused dialect text f → IsRefused dialect text g → f ≡ g
 
 abbrev pub NoRefusal : Type 0
 NoRefusal = (dialect : Dialect) (text : List ℕ) (tree : Statement) (f : Fault) → Language dialect text tree → IsRefused dialect text f → ⊥
-
--- ---- outlines
-
-some_same : (v w : Word) → Some v ≡ Some w → v ≡ w
-some_same v w h = cc
-
-abbrev rest_of : {A : Type 0} → List A → List A
-rest_of [] = []
-rest_of (x ∷ xs) = xs
-
-abbrev first_or : {A : Type 0} → A → List A → A
-first_or d [] = d
-first_or d (x ∷ xs) = x
-
--- items with the same words and beginnings are the same
-same_items : (xs ys : List OutlineItem) → map (λ x. Some x.word) xs ≡ map (λ x. Some x.word) ys → map (λ x. x.begin) xs ≡ map (λ x. x.begin) ys → xs ≡ ys
-same_items [] [] w b = refl
-same_items [] (y ∷ ys) w b = absurd (cc)
-same_items (x ∷ xs) [] w b = absurd (cc)
-same_items (x ∷ xs) (y ∷ ys) w b =
-    let word : x.word ≡ y.word = some_same x.word y.word (ap (λ zs. first_or (Some x.word) zs) w) in
-    let begin : x.begin ≡ y.begin = ap (λ zs. first_or x.begin zs) b in
-    let more = same_items xs ys (ap (λ zs. rest_of zs) w) (ap (λ zs. rest_of zs) b) in
-    λ i. record { word = word i; begin = begin i } ∷ more i
-
-one_of_text : OneTree → (dialect : Dialect) (text : List ℕ) (xs ys : List OutlineItem) → IsOutline dialect text xs → IsOutline dialect text ys → xs ≡ ys
-one_of_text one dialect text xs ys h k =
-    let tree : h.tree ≡ k.tree = one dialect text h.tree k.tree h.language k.language in
-    let all : AreItems text k.tree xs = subst (λ t. AreItems text t xs) tree h.all in
-    same_items xs ys (all.words ∙ sym k.all.words) (all.begins ∙ sym k.all.begins)
-
-pub one_outline : OneTree → (dialect : Dialect) (n : ℕ) (texts : List (List ℕ)) (xs ys : List OutlineItem) → AreOutlines dialect n texts xs → AreOutlines dialect n texts ys → xs ≡ ys
-one_outline one dialect n [] xs ys no_texts no_texts = refl
-one_outline one dialect n (t ∷ ts) xs ys (and_text {xs = a} {ys = b} h k) (and_text {xs = c} {ys = d} i l) =
-    λ j. items_down n (one_of_text one dialect t a c h i j) ++ one_outline one dialect (n + line_feeds t) ts b d k l j
 
 -- ---- edits
 

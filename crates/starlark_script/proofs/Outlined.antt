@@ -2,21 +2,26 @@
 use Rattle.std.proofs.Common.{◌≡◌, ◌<◌, ℕ, ◌+◌, zero, suc, true, List, [], ◌∷◌, ◌++◌, length, map, take, drop, set, get_or, Option, Some, None, Result, Ok, Err, refl, arith}
 use Rattle.std.specs.Prelude.{is_some}
 use Rattle.std.specs.List.{All, insert, remove}
+use Rattle.std.proofs.lemmas.List.Elements.{All-cons, All-nil}
 use Rattle.starlark_place.specs.Place.{line_feeds}
+use Rattle.starlark_lexer.specs.Joining.{IsClosed}
 use Rattle.starlark_lexer.specs.declared.dialect.Dialect.{Dialect}
 use Rattle.starlark_ast.specs.Tree.{Statement}
 use Rattle.starlark_grammar.specs.Language.{Language}
 use Rattle.starlark_parts.specs.Edits.{Answers, IsPartText, Takes}
 use Rattle.starlark_parts.specs.Flat.{AreWorded}
-use Rattle.starlark_parts.specs.Kept.{Edit, Kept, edited, inserts, replaces, removes, moves, text_of}
-use Rattle.starlark_parts.specs.Outlines.{AreOutlines, beginning, items_down, no_texts, and_text}
+use Rattle.starlark_parts.specs.Kept.{Edit, Kept, edited, inserts, joined, replaces, removes, moves, text_of}
+use Rattle.starlark_parts.specs.Outlines.{AreOutlines, IsOutline, beginning, items_down, no_texts, and_text}
 use Rattle.starlark_parts.specs.Tops.{top_level, word_of}
 use Rattle.starlark_parts.specs.declared.fault.PartFault.{PartFault}
 use Rattle.starlark_parts.specs.declared.word.OutlineItem.{OutlineItem}
 use Rattle.starlark_parts.specs.declared.word.Word.{Word}
 use Rattle.starlark_script.specs.Engine.{HasOutline, HaveOutlines}
 
--- a law of trees
+-- the laws that this stands on
+abbrev pub JoinedOutline : Type 0
+JoinedOutline = (dialect : Dialect) (texts : List (List ℕ)) (items : List OutlineItem) → All IsClosed texts → AreOutlines dialect 0 texts items → IsOutline dialect (joined texts) items
+
 abbrev pub Worded : Type 0
 Worded = (dialect : Dialect) (text : List ℕ) (tree : Statement) → Language dialect text tree → AreWorded tree
 
@@ -37,14 +42,24 @@ items_for text (s ∷ ss) h =
 text_outline : Worded → (dialect : Dialect) (text : List ℕ) → IsPartText dialect text → HasOutline dialect text
 text_outline worded dialect text h =
     let found = items_for text (top_level h.tree) (worded dialect text h.tree h.language).words in
-    record { items = found.0; is = record { tree = h.tree; language = h.language; all = record { words = found.1; begins = found.2 } } }
+    record { closed = h.closed; items = found.0; is = record { tree = h.tree; language = h.language; all = record { words = found.1; begins = found.2 } } }
 
--- the outline of all texts
-pub all_outlines : (dialect : Dialect) (n : ℕ) (texts : List (List ℕ)) → HaveOutlines dialect texts → (items : List OutlineItem) × AreOutlines dialect n texts items
-all_outlines dialect n [] h = ([], no_texts)
-all_outlines dialect n (t ∷ ts) h =
-    let rest = all_outlines dialect (n + line_feeds t) ts h.1 in
+-- the outlines of all texts, one behind another
+outlines_from : (dialect : Dialect) (n : ℕ) (texts : List (List ℕ)) → HaveOutlines dialect texts → (items : List OutlineItem) × AreOutlines dialect n texts items
+outlines_from dialect n [] h = ([], no_texts)
+outlines_from dialect n (t ∷ ts) h =
+    let rest = outlines_from dialect (n + line_feeds t) ts h.1 in
     (items_down n h.0.items ++ rest.0, and_text h.0.is rest.1)
+
+all_closed : (dialect : Dialect) (texts : List (List ℕ)) → HaveOutlines dialect texts → All IsClosed texts
+all_closed dialect [] h = All-nil IsClosed
+all_closed dialect (t ∷ ts) h = All-cons IsClosed t ts h.0.closed (all_closed dialect ts h.1)
+
+-- the outline of the joined text
+pub all_outlines : JoinedOutline → (dialect : Dialect) (texts : List (List ℕ)) → HaveOutlines dialect texts → (items : List OutlineItem) × IsOutline dialect (joined texts) items
+all_outlines law dialect texts h =
+    let found = outlines_from dialect 0 texts h in
+    (found.0, law dialect texts found.0 (all_closed dialect texts h) found.1)
 
 -- ---- edits
 

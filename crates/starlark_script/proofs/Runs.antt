@@ -18,7 +18,7 @@ use Rattle.starlark_parts.specs.Edits.{Takes}
 use Rattle.starlark_parts.specs.Edits as edits
 use Rattle.starlark_parts.specs.Kept.{Edit, HasIndex, edited, inserts, replaces, removes, moves, text_of}
 use Rattle.starlark_parts.specs.declared.fault.PartFault.TheVariants as faults
-use Rattle.starlark_script.proofs.Outlined.{all_outlines, have_textless}
+use Rattle.starlark_script.proofs.Outlined.{JoinedOutline, all_outlines, have_textless}
 use Rattle.starlark_lexer.specs.declared.dialect.Dialect.{Dialect}
 use Rattle.starlark_script.specs.declared.fault.End.{End}
 use Rattle.starlark_script.specs.declared.fault.End.TheVariants as how
@@ -87,12 +87,12 @@ both_or_not (inl a) (inl b) = inl (a, b)
 both_or_not (inl a) (inr b) = inr (λ p. b p.1)
 both_or_not (inr a) b = inr (λ p. a p.0)
 
-some_answer : (limit : ℕ) (dialect : Dialect) (parts : List (List ℕ)) (c : Command) → HaveOutlines dialect parts → AnAnswer limit dialect parts c
-some_answer limit dialect parts (editing (inserts k text)) h = (codes "refused memory\n", parts, wanting parts (inserts k text) text refl, h)
-some_answer limit dialect parts (editing (replaces k text)) h = (codes "refused memory\n", parts, wanting parts (replaces k text) text refl, h)
-some_answer limit dialect parts (editing (removes k)) h = textless limit dialect parts (removes k) refl h (has_or_not parts k)
-some_answer limit dialect parts (editing (moves k j)) h = textless limit dialect parts (moves k j) refl h (both_or_not (has_or_not parts k) (has_or_not parts j))
-some_answer limit dialect parts outlining h = let all = all_outlines dialect 0 parts h in (outline_lines all.0, parts, outlined parts all.0 all.1, h)
+some_answer : JoinedOutline → (limit : ℕ) (dialect : Dialect) (parts : List (List ℕ)) (c : Command) → HaveOutlines dialect parts → AnAnswer limit dialect parts c
+some_answer law limit dialect parts (editing (inserts k text)) h = (codes "refused memory\n", parts, wanting parts (inserts k text) text refl, h)
+some_answer law limit dialect parts (editing (replaces k text)) h = (codes "refused memory\n", parts, wanting parts (replaces k text) text refl, h)
+some_answer law limit dialect parts (editing (removes k)) h = textless limit dialect parts (removes k) refl h (has_or_not parts k)
+some_answer law limit dialect parts (editing (moves k j)) h = textless limit dialect parts (moves k j) refl h (both_or_not (has_or_not parts k) (has_or_not parts j))
+some_answer law limit dialect parts outlining h = let all = all_outlines law dialect parts h in (outline_lines all.0, parts, outlined parts all.0 all.1, h)
 
 -- What was asked is a command of the script, and its answer one of that.
 does : (limit : ℕ) (dialect : Dialect) (parts left : List (List ℕ)) (xs reply : List ℕ) (new : Option (List ℕ)) (a : Asked) → IsAsked (front xs) new a → Answers limit dialect parts a reply left
@@ -104,24 +104,24 @@ does limit dialect parts left xs reply new (asks.Move k j) r d = (editing (moves
 does limit dialect parts left xs reply new asks.Wanting r d = (editing r.0, r.3.0, r.3.1, r.3.2, d r.0 r.1 r.2)
 does limit dialect parts left xs reply new asks.Outline r d = (outlining, r.0, r.1, r.2, d)
 
-by_front : (limit n : ℕ) (dialect : Dialect) (parts : List (List ℕ)) (script : List ℕ) (f : Front) → HaveOutlines dialect parts → front script ≡ f → Left f n
+by_front : JoinedOutline → (limit n : ℕ) (dialect : Dialect) (parts : List (List ℕ)) (script : List ℕ) (f : Front) → HaveOutlines dialect parts → front script ≡ f → Left f n
     → ((left : List (List ℕ)) (rest : List ℕ) → HaveOutlines dialect left → length rest < n → Answered limit dialect left rest) → Answered limit dialect parts script
-by_front limit n dialect parts script nothing h e l more = ([], how.Whole, ends parts script e)
-by_front limit n dialect parts script no_command h e l more = (codes "bad\n", how.Bad, breaks parts script e)
-by_front limit n dialect parts script (asking c rest) h e l more =
-    let d = some_answer limit dialect parts c h in
+by_front law limit n dialect parts script nothing h e l more = ([], how.Whole, ends parts script e)
+by_front law limit n dialect parts script no_command h e l more = (codes "bad\n", how.Bad, breaks parts script e)
+by_front law limit n dialect parts script (asking c rest) h e l more =
+    let d = some_answer law limit dialect parts c h in
     let m = more d.1 rest d.3 l in
     (d.0 ++ m.0, m.1, answers parts d.1 script rest d.0 m.0 c m.1 e d.2 m.2)
 
-answered_below : (limit n : ℕ) (dialect : Dialect) (parts : List (List ℕ)) (script : List ℕ) → HaveOutlines dialect parts → length script ≤ n → Answered limit dialect parts script
-answered_below limit zero dialect parts script h l =
-    by_front limit zero dialect parts script (front script) h refl (left_below (front script) (length script) zero (front_left script) l) (λ left rest o b. absurd (omega arith))
-answered_below limit (suc n) dialect parts script h l =
-    by_front limit (suc n) dialect parts script (front script) h refl (left_below (front script) (length script) (suc n) (front_left script) l)
-    (λ left rest o b. answered_below limit n dialect left rest o (omega arith))
+answered_below : JoinedOutline → (limit n : ℕ) (dialect : Dialect) (parts : List (List ℕ)) (script : List ℕ) → HaveOutlines dialect parts → length script ≤ n → Answered limit dialect parts script
+answered_below law limit zero dialect parts script h l =
+    by_front law limit zero dialect parts script (front script) h refl (left_below (front script) (length script) zero (front_left script) l) (λ left rest o b. absurd (omega arith))
+answered_below law limit (suc n) dialect parts script h l =
+    by_front law limit (suc n) dialect parts script (front script) h refl (left_below (front script) (length script) (suc n) (front_left script) l)
+    (λ left rest o b. answered_below law limit n dialect left rest o (omega arith))
 
-pub answered : (limit : ℕ) (dialect : Dialect) (parts : List (List ℕ)) (script : List ℕ) → HaveOutlines dialect parts → Answered limit dialect parts script
-answered limit dialect parts script h = answered_below limit (length script) dialect parts script h (omega arith)
+pub answered : JoinedOutline → (limit : ℕ) (dialect : Dialect) (parts : List (List ℕ)) (script : List ℕ) → HaveOutlines dialect parts → Answered limit dialect parts script
+answered law limit dialect parts script h = answered_below law limit (length script) dialect parts script h (omega arith)
 
 -- Replies so far and then any replies to the rest are replies to the script.
 then_replies : (limit : ℕ) (dialect : Dialect) (parts : List (List ℕ)) (script : List ℕ) (left : List (List ℕ)) (so_far rest replies : List ℕ) (end : End)
@@ -185,14 +185,14 @@ going_bad limit dialect (Some script) (Some before) parts (Some xs) new (Some ts
     }
 
 -- A read fails.
-pub going_unread : (limit : ℕ) (dialect : Dialect) (s b : Option (List ℕ)) (parts : List (List ℕ)) (c t : Option (List ℕ)) → HaveOutlines dialect parts
+pub going_unread : JoinedOutline → (limit : ℕ) (dialect : Dialect) (s b : Option (List ℕ)) (parts : List (List ℕ)) (c t : Option (List ℕ)) → HaveOutlines dialect parts
     → Going limit dialect s b parts c t → WroteFront limit dialect s b t
-going_unread limit dialect None b parts c t h go = tt
-going_unread limit dialect (Some script) None parts c t h go = tt
-going_unread limit dialect (Some script) (Some before) parts None t h go = absurd go
-going_unread limit dialect (Some script) (Some before) parts (Some xs) None h go = absurd go
-going_unread limit dialect (Some script) (Some before) parts (Some xs) (Some ts) h go =
-    let m = answered limit dialect parts xs h in record { front = go.0; rest = m.0; end = m.1; given = then_replies limit dialect [] script parts go.0 xs m.0 m.1 go.2 m.2; written = ap Some go.1 }
+going_unread law limit dialect None b parts c t h go = tt
+going_unread law limit dialect (Some script) None parts c t h go = tt
+going_unread law limit dialect (Some script) (Some before) parts None t h go = absurd go
+going_unread law limit dialect (Some script) (Some before) parts (Some xs) None h go = absurd go
+going_unread law limit dialect (Some script) (Some before) parts (Some xs) (Some ts) h go =
+    let m = answered law limit dialect parts xs h in record { front = go.0; rest = m.0; end = m.1; given = then_replies limit dialect [] script parts go.0 xs m.0 m.1 go.2 m.2; written = ap Some go.1 }
 
 -- What was written by then are whole replies to all that is whole.
 pub going_so_far : (limit : ℕ) (dialect : Dialect) (s b : Option (List ℕ)) (parts : List (List ℕ)) (c t u : Option (List ℕ)) → Going limit dialect s b parts c t → StopsCut c u
@@ -227,15 +227,15 @@ stopped limit dialect script before so_far ts reply more (Some us) end e all w =
     }
 
 -- A write fails.
-pub going_unwritten : (limit : ℕ) (dialect : Dialect) (s b : Option (List ℕ)) (parts left : List (List ℕ)) (c new t u : Option (List ℕ)) (a : Asked) (reply : List ℕ)
+pub going_unwritten : JoinedOutline → (limit : ℕ) (dialect : Dialect) (s b : Option (List ℕ)) (parts left : List (List ℕ)) (c new t u : Option (List ℕ)) (a : Asked) (reply : List ℕ)
     → HaveOutlines dialect left → Going limit dialect s b parts c t → IsRequest c new (requests.Does a) → Answers limit dialect parts a reply left → AppendsFront t u reply → WroteFront limit dialect s b u
-going_unwritten limit dialect None b parts left c new t u a reply h go r d w = tt
-going_unwritten limit dialect (Some script) None parts left c new t u a reply h go r d w = tt
-going_unwritten limit dialect (Some script) (Some before) parts left None new t u a reply h go r d w = absurd go
-going_unwritten limit dialect (Some script) (Some before) parts left (Some xs) new None u a reply h go r d w = absurd go
-going_unwritten limit dialect (Some script) (Some before) parts left (Some xs) new (Some ts) u a reply h go r d w =
+going_unwritten law limit dialect None b parts left c new t u a reply h go r d w = tt
+going_unwritten law limit dialect (Some script) None parts left c new t u a reply h go r d w = tt
+going_unwritten law limit dialect (Some script) (Some before) parts left None new t u a reply h go r d w = absurd go
+going_unwritten law limit dialect (Some script) (Some before) parts left (Some xs) new None u a reply h go r d w = absurd go
+going_unwritten law limit dialect (Some script) (Some before) parts left (Some xs) new (Some ts) u a reply h go r d w =
     let x = does limit dialect parts left xs reply new a r d in
-    let m = answered limit dialect left x.1 h in
+    let m = answered law limit dialect left x.1 h in
     stopped limit dialect script before go.0 ts reply m.0 u m.1 go.1 (then_replies limit dialect [] script parts go.0 xs (reply ++ m.0) m.1 go.2 (answers parts left xs x.1 reply m.0 x.0 m.1 x.2 x.4 m.2)) w
 
 pub going_unbroken : (limit : ℕ) (dialect : Dialect) (s b : Option (List ℕ)) (parts : List (List ℕ)) (c new t u : Option (List ℕ))
@@ -247,8 +247,8 @@ going_unbroken limit dialect (Some script) (Some before) parts (Some xs) new Non
 going_unbroken limit dialect (Some script) (Some before) parts (Some xs) new (Some ts) u go r w =
     stopped limit dialect script before go.0 ts (codes "bad\n") [] u how.Bad go.1 (rw (append-nil (codes "bad\n")) (then_replies limit dialect [] script parts go.0 xs (codes "bad\n") how.Bad go.2 (breaks parts xs r))) w
 
-pub nothing_written : (limit : ℕ) (dialect : Dialect) (s b : Option (List ℕ)) → WroteFront limit dialect s b b
-nothing_written limit dialect None b = tt
-nothing_written limit dialect (Some script) None = tt
-nothing_written limit dialect (Some script) (Some before) =
-    let m = answered limit dialect [] script tt in record { front = []; rest = m.0; end = m.1; given = m.2; written = ap Some (sym (append-nil before)) }
+pub nothing_written : JoinedOutline → (limit : ℕ) (dialect : Dialect) (s b : Option (List ℕ)) → WroteFront limit dialect s b b
+nothing_written law limit dialect None b = tt
+nothing_written law limit dialect (Some script) None = tt
+nothing_written law limit dialect (Some script) (Some before) =
+    let m = answered law limit dialect [] script tt in record { front = []; rest = m.0; end = m.1; given = m.2; written = ap Some (sym (append-nil before)) }

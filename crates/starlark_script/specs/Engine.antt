@@ -1,5 +1,6 @@
 -- What an answer and a run leave.
 use Rattle.std.specs.Prelude.{◌≡◌, ℕ, List, [], ◌∷◌, ◌++◌, Option, None, Some, Result, Ok, Err, codes}
+use Rattle.starlark_lexer.specs.Joining.{IsClosed}
 use Rattle.starlark_parts.specs.Kept.{Edit, inserts, replaces, removes, moves, text_of}
 use Rattle.starlark_parts.specs.Outlines.{IsOutline}
 use Rattle.starlark_parts.specs.declared.word.OutlineItem.{OutlineItem}
@@ -21,8 +22,9 @@ Answers limit dialect parts (asks.Move k j) reply left = Does limit dialect part
 Answers limit dialect parts asks.Wanting reply left = (edit : Edit) (text : List ℕ) → text_of edit ≡ Some text → Does limit dialect parts (editing edit) reply left
 Answers limit dialect parts asks.Outline reply left = Does limit dialect parts outlining reply left
 
--- the text has an outline
+-- the text is closed, and has an outline
 pub record HasOutline (dialect : Dialect) (text : List ℕ) : Type 0 where
+  pub closed : IsClosed text
   pub items : List OutlineItem
   pub is : IsOutline dialect text items
 

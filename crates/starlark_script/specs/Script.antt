@@ -2,9 +2,9 @@
 use Rattle.std.specs.Prelude.{◌≡◌, ◌⊎◌, ◌<◌, ◌≤◌, ℕ, ◌+◌, ◌-◌, ◌*◌, List, [], ◌∷◌, ◌++◌, Bool, true, false, Option, None, Some, length, take, drop, codes, nat_eq, nat_lt, ◌&&◌, if◌then◌else◌}
 use Rattle.std.specs.List.{list_all}
 use Rattle.starlark_lexer.specs.declared.dialect.Dialect.{Dialect}
-use Rattle.starlark_parts.specs.Kept.{Edit, inserts, replaces, removes, moves, edited, text_of}
+use Rattle.starlark_parts.specs.Kept.{Edit, inserts, replaces, removes, moves, edited, joined, text_of}
 use Rattle.starlark_parts.specs.Edits.{Takes, Refuses}
-use Rattle.starlark_parts.specs.Outlines.{AreOutlines}
+use Rattle.starlark_parts.specs.Outlines.{IsOutline}
 use Rattle.starlark_parts.specs.declared.word.OutlineItem.{OutlineItem}
 use Rattle.starlark_parts.specs.declared.fault.PartFault.{PartFault}
 use Rattle.starlark_script.specs.Printed.{refusal_line, outline_lines}
@@ -151,8 +151,8 @@ pub data Does (limit : ℕ) (dialect : Dialect) : List (List ℕ) → Command �
   refused : (parts : List (List ℕ)) (edit : Edit) (fault : PartFault) → Refuses dialect limit parts edit fault → Does limit dialect parts (editing edit) (refusal_line fault) parts
   -- memory may be wanting while the bytes of a text come, before anything is known of them
   wanting : (parts : List (List ℕ)) (edit : Edit) (text : List ℕ) → text_of edit ≡ Some text → Does limit dialect parts (editing edit) (codes "refused memory\n") parts
-  -- the outline is that of each part, one behind another, moved down by the line feeds before it
-  outlined : (parts : List (List ℕ)) (items : List OutlineItem) → AreOutlines dialect 0 parts items → Does limit dialect parts outlining (outline_lines items) parts
+  -- the outline is that of the joined text
+  outlined : (parts : List (List ℕ)) (items : List OutlineItem) → IsOutline dialect (joined parts) items → Does limit dialect parts outlining (outline_lines items) parts
 
 -- These replies may be given to a script, over these parts, and it ends so.
 pub data Replies (limit : ℕ) (dialect : Dialect) : List (List ℕ) → List ℕ → List ℕ → End → Type 0 where

@@ -16,7 +16,7 @@ use crate::write::write_all;
 use starlark_lexer::dialect::Dialect;
 use starlark_parts::fault::PartFault;
 use starlark_parts::items::Items;
-use starlark_parts::laws::good_trees;
+use starlark_parts::laws::{good_trees, joined_outline};
 use starlark_parts::parts::Parts;
 use std::alloc::Global;
 
@@ -115,6 +115,7 @@ fn answer_all<R: Source, W: Sink>(
     ensures prompt { IfErr result (λ f. f ≡ RunFault.Write → R.has_failed reader.new ≡ false) }
     ensures memory { IfErr result (λ f. f ≡ RunFault.Memory → ⊥) }
 {
+    joined_outline();
     let mut line = [0u8; 64];
     'commands: loop {
         match next_request(alloc, ahead, reader, &mut line)? {
@@ -168,6 +169,7 @@ pub fn run_with<R: Source, W: Sink>(
     ensures prompt { IfErr result (λ f. f ≡ RunFault.Write → R.has_failed reader.new ≡ false) }
     ensures memory { IfErr result (λ f. f ≡ RunFault.Memory → (reader.new ≡ reader.old) × (writer.new ≡ writer.old)) }
 {
+    joined_outline();
     let mut ahead = match Ahead::new(alloc) {
         Ok(ahead) => ahead,
         Err(_) => return Err(RunFault::Memory),

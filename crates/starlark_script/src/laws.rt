@@ -4,18 +4,19 @@ ghost use Rattle.std.specs.Prelude.{◌≡◌, ◌≤◌, ◌⊎◌, ℕ, List, 
 ghost use Rattle.starlark_lexer.specs.declared.dialect.Dialect.{Dialect};
 ghost use Rattle.starlark_parts.specs.Edits.{Refuses, Takes};
 ghost use Rattle.starlark_parts.specs.Kept.{Edit, edited, inserts, removes};
-ghost use Rattle.starlark_parts.specs.Outlines.{AreOutlines};
+ghost use Rattle.starlark_parts.specs.Outlines.{IsOutline};
 ghost use Rattle.starlark_parts.specs.declared.fault.PartFault.{PartFault};
 ghost use Rattle.starlark_parts.specs.declared.word.OutlineItem.{OutlineItem};
 ghost use Rattle.starlark_script.specs.Laws.{SayTheSame};
 
-use starlark_grammar::text_laws::{one_refusal, one_tree};
+use starlark_grammar::text_laws::one_refusal;
+use starlark_parts::laws;
 
-/// Texts one behind another have one outline at most.
+/// A text has one outline at most.
 pub fn one_outline()
-    ensures { (dialect : Dialect) (n : ℕ) (texts : List (List ℕ)) (xs ys : List OutlineItem) → AreOutlines dialect n texts xs → AreOutlines dialect n texts ys → xs ≡ ys }
+    ensures { (dialect : Dialect) (text : List ℕ) (xs ys : List OutlineItem) → IsOutline dialect text xs → IsOutline dialect text ys → xs ≡ ys }
 {
-    one_tree();
+    laws::one_outline();
 }
 
 /// An edit that is taken may be refused for want of memory alone, and want of memory aside it is refused for one reason

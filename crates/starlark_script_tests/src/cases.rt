@@ -4,7 +4,7 @@ use crate::devices::{NEVER, Tight, run_short};
 use starlark_script::{End, status};
 
 /// Each script with its replies, its end and the status then. A comment names its file.
-static CASES: [(&[u8], &[u8], End, u8); 38] = [
+static CASES: [(&[u8], &[u8], End, u8); 40] = [
     // a_part_of_comments
     (
         b"insert 0 16\ndef f():\n  pass\ninsert 1 5\n\n# c\ninsert 2 5\nf(1)\noutline\n",
@@ -14,6 +14,20 @@ static CASES: [(&[u8], &[u8], End, u8); 38] = [
     ),
     // another_word
     (b"insert 0 6\nx = 1\noutlin\n", b"ok\nbad\n", End::Bad, 2),
+    // blocks_in_one_part
+    (
+        b"insert 0 38\ndef f():\n  if x:\n    pass\n\n\n  # c\ng()\noutline\n",
+        b"ok\nstatements 2\n1:1 def\n7:1 expression\n",
+        End::Whole,
+        0,
+    ),
+    // blocks_over_parts
+    (
+        b"insert 0 26\ndef f():\n  if x:\n    pass\ninsert 1 8\n\n\n  # c\ninsert 2 4\ng()\noutline\n",
+        b"ok\nok\nok\nstatements 2\n1:1 def\n7:1 expression\n",
+        End::Whole,
+        0,
+    ),
     // bytes_in_a_tuple
     (
         b"insert 0 13\nx = 1, b\"hi\"\noutline\n",

@@ -21,7 +21,7 @@ commands-init g c = record {
 pub returns-in_err-next_request-clause-front : goal.returns-in_err-next_request-clause-front
 returns-in_err-next_request-clause-front g c =
     let p = err_from_is_err_and c.from_residual.result c.from_residual.ensures.1 in
-    rw p.1 (going_unread c.args.parts.now.limit c.args.parts.now.dialect _ _ c.commands.parts.texts _ _ (rw c.commands.invariant.dialect at c.commands.invariant.outlined) c.commands.invariant.going)
+    rw p.1 (going_unread c.joined_outline.ensures c.args.parts.now.limit c.args.parts.now.dialect _ _ c.commands.parts.texts _ _ (rw c.commands.invariant.dialect at c.commands.invariant.outlined) c.commands.invariant.going)
 
 pub returns-in_err-next_request-clause-whole : goal.returns-in_err-next_request-clause-whole
 returns-in_err-next_request-clause-whole g c =
@@ -48,7 +48,7 @@ returns-in_err-answer-in-Does-clause-front g c =
     let p = err_from_is_err_and r.result r.ensures.1 in
     let f = rw (c.commands.invariant.limit, c.commands.invariant.dialect) at c.in_err-answer-in-Does.ensures.front in
     let o = rw (c.answer.ensures.dialect, c.commands.invariant.dialect) at c.answer.ensures.outlined in
-    rw p.1 (going_unwritten c.args.parts.now.limit c.args.parts.now.dialect _ _ c.commands.parts.texts c.answer.new.parts.texts _ _ _ _ c.in-Does.asked f.0 o c.commands.invariant.going (rw c.in-Does.is at c.in_ok-next_request.ensures.ok) f.1 f.2)
+    rw p.1 (going_unwritten c.joined_outline.ensures c.args.parts.now.limit c.args.parts.now.dialect _ _ c.commands.parts.texts c.answer.new.parts.texts _ _ _ _ c.in-Does.asked f.0 o c.commands.invariant.going (rw c.in-Does.is at c.in_ok-next_request.ensures.ok) f.1 f.2)
 
 pub commands-preserved : goal.commands-preserved
 commands-preserved g c =
