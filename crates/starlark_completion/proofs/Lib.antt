@@ -1,0 +1,12 @@
+pub mod MovingPoints
+pub mod MovingFrames
+pub mod MovingSpots
+pub mod Moving
+pub mod Counting
+pub mod Running
+pub mod Lined
+pub mod Closed
+pub mod Completed
+pub mod Ways
+pub mod Passed
+pub mod Ended

@@ -1,0 +1,4 @@
+//! Laws of texts that go on.
+#![tactic(auto)]
+
+pub mod laws;
