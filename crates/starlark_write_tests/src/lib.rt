@@ -2,4 +2,6 @@
 #![tactic(auto)]
 
 #[cfg(test)]
+mod statements;
+#[cfg(test)]
 mod writing;
