@@ -25,7 +25,7 @@ use Rattle.starlark_lexer.proofs.JoinedOn.{Alike, on_past, count_cons, dedents_o
 -- ---- f-strings that are open
 
 -- something is open around a place that is not among lexemes, and nothing around one that is
-abbrev Nest : Mode → List Mode → Type 0
+abbrev pub Nest : Mode → List Mode → Type 0
 Nest rules.code [] = Unit {0}
 Nest rules.code (m ∷ ms) = ⊥
 Nest (rules.inside b g) [] = ⊥
@@ -33,25 +33,25 @@ Nest (rules.inside b g) (m ∷ ms) = Nest m ms
 Nest (rules.field b g bs) [] = ⊥
 Nest (rules.field b g bs) (m ∷ ms) = Nest m ms
 
-nest_behind : (m : Mode) (x : Lexeme) (os : List Mode) → Nest m os → Nest (mode_behind m x) os
+pub nest_behind : (m : Mode) (x : Lexeme) (os : List Mode) → Nest m os → Nest (mode_behind m x) os
 nest_behind rules.code x os h = h
 nest_behind (rules.inside b g) x os h = h
 nest_behind (rules.field b g bs) x [] h = h
 nest_behind (rules.field b g bs) x (m ∷ ms) h = h
 
-nest_below : (b : ℕ) (g : Form) (os : List Mode) → Nest (rules.inside b g) os → Nest (below os) (drop 1 os)
+pub nest_below : (b : ℕ) (g : Form) (os : List Mode) → Nest (rules.inside b g) os → Nest (below os) (drop 1 os)
 nest_below b g [] h = absurd h
 nest_below b g (m ∷ ms) h = h
 
-nest_field : (b : ℕ) (g : Form) (os : List Mode) → Nest (rules.inside b g) os → Nest (rules.field b g []) os
+pub nest_field : (b : ℕ) (g : Form) (os : List Mode) → Nest (rules.inside b g) os → Nest (rules.field b g []) os
 nest_field b g [] h = h
 nest_field b g (m ∷ ms) h = h
 
-nest_inside : (b : ℕ) (g : Form) (bs : List Bracket) (os : List Mode) → Nest (rules.field b g bs) os → Nest (rules.inside b g) os
+pub nest_inside : (b : ℕ) (g : Form) (bs : List Bracket) (os : List Mode) → Nest (rules.field b g bs) os → Nest (rules.inside b g) os
 nest_inside b g bs [] h = h
 nest_inside b g bs (m ∷ ms) h = h
 
-nest_code : (m : Mode) (os : List Mode) → Nest m os → length os ≡ 0 → (m ≡ rules.code) × (os ≡ [])
+pub nest_code : (m : Mode) (os : List Mode) → Nest m os → length os ≡ 0 → (m ≡ rules.code) × (os ≡ [])
 nest_code rules.code [] h e = (refl, refl)
 nest_code rules.code (m ∷ ms) h e = absurd h
 nest_code (rules.inside b g) [] h e = absurd h
@@ -61,27 +61,27 @@ nest_code (rules.field b g bs) (m ∷ ms) h e = absurd (omega (arith, e))
 
 -- ---- counting
 
-outside_nil : (d : ℕ) → outside d [] ≡ []
+pub outside_nil : (d : ℕ) → outside d [] ≡ []
 outside_nil zero = refl
 outside_nil (suc d) = refl
 
-outside_append : (d : ℕ) (xs ys : List Item) → outside d (xs ++ ys) ≡ outside d xs ++ outside (open_behind d xs) ys
+pub outside_append : (d : ℕ) (xs ys : List Item) → outside d (xs ++ ys) ≡ outside d xs ++ outside (open_behind d xs) ys
 outside_append zero [] ys = refl
 outside_append (suc d) [] ys = refl
 outside_append zero (x ∷ xs) ys = ap (λ zs. x ∷ zs) (outside_append (nested 0 x.lexeme) xs ys)
 outside_append (suc d) (x ∷ xs) ys = outside_append (nested (suc d) x.lexeme) xs ys
 
-open_append : (d : ℕ) (xs ys : List Item) → open_behind d (xs ++ ys) ≡ open_behind (open_behind d xs) ys
+pub open_append : (d : ℕ) (xs ys : List Item) → open_behind d (xs ++ ys) ≡ open_behind (open_behind d xs) ys
 open_append d [] ys = refl
 open_append d (x ∷ xs) ys = open_append (nested d x.lexeme) xs ys
 
 -- a lexeme that is no bracket
-none_counted : (f : Item → Bool) (x : Item) (d : ℕ) → f x ≡ false → count_by f (outside d (x ∷ [])) ≡ 0
+pub none_counted : (f : Item → Bool) (x : Item) (d : ℕ) → f x ≡ false → count_by f (outside d (x ∷ [])) ≡ 0
 none_counted f x zero e = ap (λ xs. count_by f (x ∷ xs)) (outside_nil (nested 0 x.lexeme)) ∙ count_cons f x [] ∙ ap (λ t. cond t 1 0 + 0) e
 none_counted f x (suc d) e = ap (count_by f) (outside_nil (nested (suc d) x.lexeme))
 
 -- a lexeme as it is recorded
-one_counted : (f : Item → Bool) (m : Mode) (os : List Mode) (x : Item) (xs : List Item) → Nest m os → count_by f (recorded m x xs) ≡ count_by f (outside (length os) (x ∷ [])) + count_by f xs
+pub one_counted : (f : Item → Bool) (m : Mode) (os : List Mode) (x : Item) (xs : List Item) → Nest m os → count_by f (recorded m x xs) ≡ count_by f (outside (length os) (x ∷ [])) + count_by f xs
 one_counted f rules.code [] x xs h = omega (arith, ap (λ ys. count_by f (x ∷ ys)) (outside_nil (nested 0 x.lexeme)), count_cons f x xs, count_cons f x [])
 one_counted f rules.code (m ∷ ms) x xs h = absurd h
 one_counted f (rules.inside b g) [] x xs h = absurd h
@@ -89,19 +89,19 @@ one_counted f (rules.inside b g) (m ∷ ms) x xs h = omega (arith, ap (count_by 
 one_counted f (rules.field b g bs) [] x xs h = absurd h
 one_counted f (rules.field b g bs) (m ∷ ms) x xs h = omega (arith, ap (count_by f) (outside_nil (nested (suc (length ms)) x.lexeme)))
 
-dedents_out_opened : (d i n : ℕ) → count_by opening_item (outside d (dedents i n)) ≡ 0
+pub dedents_out_opened : (d i n : ℕ) → count_by opening_item (outside d (dedents i n)) ≡ 0
 dedents_out_opened zero i zero = refl
 dedents_out_opened (suc d) i zero = refl
 dedents_out_opened zero i (suc n) = dedents_out_opened zero i n
 dedents_out_opened (suc d) i (suc n) = dedents_out_opened (suc d) i n
 
-dedents_out_closed : (d i n : ℕ) → count_by closing_item (outside d (dedents i n)) ≡ 0
+pub dedents_out_closed : (d i n : ℕ) → count_by closing_item (outside d (dedents i n)) ≡ 0
 dedents_out_closed zero i zero = refl
 dedents_out_closed (suc d) i zero = refl
 dedents_out_closed zero i (suc n) = dedents_out_closed zero i n
 dedents_out_closed (suc d) i (suc n) = dedents_out_closed (suc d) i n
 
-dedents_open : (d i n : ℕ) → open_behind d (dedents i n) ≡ d
+pub dedents_open : (d i n : ℕ) → open_behind d (dedents i n) ≡ d
 dedents_open d i zero = refl
 dedents_open d i (suc n) = dedents_open d i n
 
@@ -329,7 +329,7 @@ plain_more p rest b h ended = record {
   no_end = λ i g bs e d. closes_more rest b ended ∙ h.no_end i g bs e d;
 }
 
-literal_neutral : (s : Sort) (v : List ℕ) (n : ℕ) → nested n (literal_lexeme s v) ≡ n
+pub literal_neutral : (s : Sort) (v : List ℕ) (n : ℕ) → nested n (literal_lexeme s v) ≡ n
 literal_neutral sort.Text v n = refl
 literal_neutral sort.Bytes v n = refl
 literal_neutral sort.Format v n = refl

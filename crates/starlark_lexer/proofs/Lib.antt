@@ -1,41 +1,41 @@
 pub mod Runs
 pub mod Gaps
 pub mod Modes
-mod Numbers
-mod Formats
-mod Reading
-mod Digits
-mod Pieces
-mod Looks
-mod Bodies
-mod Values
-mod Openings
-mod Tables
-mod Singles
-mod Fixed
-mod Fronts
-mod Longest
-mod Scanned
-mod Depth
-mod Widths
-mod Stacks
-mod Cuts
-mod Machine
-mod Rules
-mod Whole
-mod Bounds
-mod Sounds
-mod Hands
-mod Ordered
-mod Identifiers
-mod JoinedClasses
-mod JoinedBodies
-mod JoinedTokens
-mod JoinedLines
-mod JoinedOn
-mod Joined
-mod JoinedLayouts
-mod Covered
-mod Firm
-mod Characters
+pub mod Numbers
+pub mod Formats
+pub mod Reading
+pub mod Digits
+pub mod Pieces
+pub mod Looks
+pub mod Bodies
+pub mod Values
+pub mod Openings
+pub mod Tables
+pub mod Singles
+pub mod Fixed
+pub mod Fronts
+pub mod Longest
+pub mod Scanned
+pub mod Depth
+pub mod Widths
+pub mod Stacks
+pub mod Cuts
+pub mod Machine
+pub mod Rules
+pub mod Whole
+pub mod Bounds
+pub mod Sounds
+pub mod Hands
+pub mod Ordered
+pub mod Identifiers
+pub mod JoinedClasses
+pub mod JoinedBodies
+pub mod JoinedTokens
+pub mod JoinedLines
+pub mod JoinedOn
+pub mod Joined
+pub mod JoinedLayouts
+pub mod Covered
+pub mod Firm
+pub mod Characters
 pub mod Examples

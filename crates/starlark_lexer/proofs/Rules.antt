@@ -551,10 +551,10 @@ kept_all [] w h = refl
 kept_all (x ∷ ws) w h = let a : x ≤ w = h 0 (omega arith) in let e : leb x w ≡ true = grind (arith, nat_tests) in rw (e, one-add) (ap suc (kept_all ws w (λ k lt. h (suc k) (omega arith))))
 
 module _ (p : Past) (ws : List ℕ) (stack : IsStack p.lines ws) (w : ℕ) where
-  deeper_shut : IsDeeper p.lines w → is_open ws w ≡ false
+  pub deeper_shut : IsDeeper p.lines w → is_open ws w ≡ false
   deeper_shut h = elim (cases_Bool (is_open ws w)) [ inr e ↦ e | inl e ↦ absurd (omega (arith, h w (widths.open_test p.lines ws stack w e))) ]
 
-  deeper_all : IsDeeper p.lines w → kept ws w ≡ length ws
+  pub deeper_all : IsDeeper p.lines w → kept ws w ≡ length ws
   deeper_all h = kept_all ws w (λ k lt. let a : get_or ws k 0 < w = h (get_or ws k 0) ((stack.each (get_or ws k 0)).0 (widths.has_at ws k lt)).0 in omega arith)
 
   all_deeper : is_open ws w ≡ false → kept ws w ≡ length ws → IsDeeper p.lines w

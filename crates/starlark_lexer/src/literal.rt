@@ -29,7 +29,7 @@ pub(crate) struct Form {
 
 /// How the body of a literal ends, and after how many bytes.
 #[derive(Clone, Copy, Debug, PartialEq, Eq)]
-pub(crate) enum Ending {
+pub enum Ending {
     /// Before its closing quotes.
     Closed(usize),
     /// Before the brace that opens a field.
@@ -42,7 +42,7 @@ pub(crate) enum Ending {
 
 /// What stands at a place of a body.
 #[derive(Clone, Copy, Debug)]
-pub(crate) enum Piece {
+pub enum Piece {
     Closing,
     Field,
     Stop,

@@ -6,7 +6,7 @@ ghost use Rattle.starlark_lexer.specs.FirstBytes as spec;
 
 /// Words with a meaning of their own.
 #[derive(Clone, Copy, Debug)]
-pub(crate) enum Keyword {
+pub enum Keyword {
     And,
     Break,
     Continue,
@@ -26,7 +26,7 @@ pub(crate) enum Keyword {
 
 /// Operators and brackets.
 #[derive(Clone, Copy, Debug)]
-pub(crate) enum Operator {
+pub enum Operator {
     Comma,
     Semicolon,
     Colon,

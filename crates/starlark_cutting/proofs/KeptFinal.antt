@@ -1,0 +1,151 @@
+-- The step whose item ends where what is kept of a text ends: it is one there where a space, a CR or a line feed stands behind.
+use Rattle.std.proofs.Common.{◌≡◌, ◌<◌, ◌≤◌, ℕ, ◌+◌, ◌-◌, Bool, true, false, List, [], ◌∷◌, ◌++◌, length, take, drop, refl, ap, sym, ◌∙◌, arith, zero, suc, inl, inr, eqb, subst}
+use Rattle.std.specs.Prelude.{Option, Some, None}
+use Rattle.std.proofs.lemmas.Bool.{false≢true}
+use Rattle.std.proofs.lemmas.List.{drop-append-le, drop_all}
+use Rattle.starlark_lexer.specs.declared.literal.Form.{Form}
+use Rattle.starlark_lexer.specs.declared.literal.Ending.{Ending}
+use Rattle.starlark_lexer.specs.declared.literal.Ending.TheVariants as ending
+use Rattle.starlark_lexer.specs.declared.literal.Piece.TheVariants.{Nothing}
+use Rattle.starlark_lexer.specs.declared.token.FStringQuote.{FStringQuote}
+use Rattle.starlark_lexer.specs.declared.token.FStringQuote.TheVariants.{Single, Double, TripleSingle, TripleDouble}
+use Rattle.starlark_lexer.specs.Items.{Lexeme, Item, dedents}
+use Rattle.starlark_lexer.specs.Literals.{body, read, by_piece, piece, mark, later, quotes}
+use Rattle.starlark_lexer.specs.Depth.{Bracket}
+use Rattle.starlark_lexer.specs.Classes.{Meaning, meaning, token, IsLexeme}
+use Rattle.starlark_lexer.specs.Lex.{Mode, Past, Move, Step, on, over, mode_behind, is_inside}
+use Rattle.starlark_lexer.specs.Lex as rules
+use Rattle.starlark_cutting.specs.Cutting.{inner}
+use Rattle.starlark_cutting.proofs.Clean.{stop_none}
+use Rattle.starlark_cutting.proofs.KeptLines.{Stops, lexeme_kept}
+use Rattle.starlark_cutting.proofs.KeptMoves.{At, not_inside, plain_kept}
+use Rattle.starlark_cutting.proofs.KeptSteps.{literal_kept, leaves_kept}
+
+-- one such item
+abbrev pub one_inner : List Item → Bool
+one_inner [] = false
+one_inner (x ∷ []) = inner x.lexeme
+one_inner (x ∷ y ∷ xs) = false
+
+dedents_not : (i n : ℕ) → one_inner (dedents i n) ≡ false
+dedents_not i zero = refl
+dedents_not i (suc zero) = refl
+dedents_not i (suc (suc n)) = refl
+
+code_behind : (m : Mode) (x : Lexeme) → mode_behind m x ≡ rules.code → m ≡ rules.code
+code_behind rules.code x e = refl
+code_behind (rules.inside b g) x e = absurd (cc)
+code_behind (rules.field b g bs) x e = absurd (cc)
+
+inside_code : (b : ℕ) (g : Form) → rules.inside b g ≡ rules.code → ⊥
+inside_code b g e = cc
+
+field_code : (b : ℕ) (g : Form) (bs : List Bracket) → rules.field b g bs ≡ rules.code → ⊥
+field_code b g bs e = cc
+
+-- ---- a CR alone is no lexeme, and ends no literal
+
+none_some : (o : Option Meaning) (m : Meaning) → o ≡ None → o ≡ Some m → ⊥
+none_some o m h k = cc
+
+lexeme_cr : (u v : List ℕ) (n : ℕ) (m : Meaning) → IsLexeme (u ++ v) n m → n ≡ length u → u ≡ 13 ∷ [] → ⊥
+lexeme_cr u v n m l e is =
+    let one : n ≡ 1 = omega (arith, e, ap length is) in
+    let w : take n (u ++ v) ≡ 13 ∷ [] = (λ i. take (one i) (is i ++ v)) in
+    none_some _ m (ap meaning w ∙ stop_none (13 ∷ []) 0 (omega arith) refl) l.means
+
+later_not : (e : Ending) → later 1 e ≡ ending.Closed 0 → ⊥
+later_not (ending.Closed k) h = let z : 1 + k ≡ 0 = cc in omega (arith, z)
+later_not (ending.Field k) h = cc
+later_not (ending.Unfinished k) h = cc
+later_not (ending.Escape k m) h = cc
+
+cr_mark : (q : FStringQuote) → eqb 13 (mark q) ≡ false
+cr_mark Single = refl
+cr_mark Double = refl
+cr_mark TripleSingle = refl
+cr_mark TripleDouble = refl
+
+cr_piece : (g : Form) (v : List ℕ) → piece g (13 ∷ v) ≡ Nothing 1
+unfolding piece
+cr_piece g v = let m = cr_mark g.quote in rw m refl
+
+body_cr : (g : Form) (v : List ℕ) → body g 0 (13 ∷ v) ≡ ending.Closed 0 → ⊥
+unfolding read
+body_cr g v e = later_not (read g 0 v).ending (ap (λ p. (by_piece p (13 ∷ v) (λ k. read g (k - 1) v)).ending) (sym (cr_piece g v)) ∙ e)
+
+quotes_some : (q : FStringQuote) → 0 < quotes q
+quotes_some Single = omega arith
+quotes_some Double = omega arith
+quotes_some TripleSingle = omega arith
+quotes_some TripleDouble = omega arith
+
+-- ---- the step
+
+pub record Stepped (p : Past) (xs : List Item) (q : Past) (u v : List ℕ) : Type 0 where
+  pub at : At p u v
+  pub step : (o : List ℕ) → Stops o → Step p (u ++ o) (on xs q o)
+  pub fresh : q.fresh ≡ false
+
+behind_all : (p : Past) (xs : List Item) (q : Past) (u o : List ℕ) (k : ℕ) → k ≡ length u → Step p (u ++ o) (on xs q (drop k (u ++ o))) → Step p (u ++ o) (on xs q o)
+behind_all p xs q u o k e step =
+    let all : drop k (u ++ o) ≡ o = drop-append-le k u o (omega (arith, e)) ∙ ap (λ w. w ++ o) (drop_all k u (omega (arith, e))) in
+    subst (λ w. Step p (u ++ o) (on xs q w)) all step
+
+abbrev pub Last : Past → List ℕ → Move → Type 0
+Last p rest (on xs q more) = (u v : List ℕ) → rest ≡ u ++ v → q.place ≡ p.place + length u → q.mode ≡ rules.code → one_inner xs ≡ true → Stepped p xs q u v
+Last p rest (over l) = Unit {0}
+
+pub last : {p : Past} {rest : List ℕ} {m : Move} → Step p rest m → Last p rest m
+last (rules.blank_line p rest more f e) = λ u v is at c i. absurd (false≢true i)
+last (rules.remark_line p rest more f e) = λ u v is at c i. absurd (false≢true i)
+last (rules.last_line p rest closed f e c) = tt
+last (rules.tabbed p rest m t) = tt
+last (rules.deepens p rest m t d) = λ u v is at c i. absurd (false≢true i)
+last (rules.fits p rest closed m t o d) = λ u v is at c i. absurd (false≢true (sym (dedents_not p.place (length closed)) ∙ i))
+last (rules.misfits p rest m t d o) = tt
+last (rules.passes p b rest f c d) = λ u v is at e i. absurd (false≢true i)
+last (rules.escapes p rest f c d) = λ u v is at e i. absurd (false≢true i)
+last (rules.joins p rest f d) = λ u v is at e i. absurd (false≢true i)
+last (rules.ends_line p rest f c d) = λ u v is at e i. absurd (false≢true i)
+last (rules.remark p rest f c) = λ u v is at e i. absurd (false≢true i)
+last (rules.lexeme p rest n x v l) = λ u w is at c i.
+    let all : n ≡ length u = omega (arith, at) in
+    let here = subst (λ r. IsLexeme r n (token x)) is l in
+    let some = l.nonempty in
+    record {
+      at = record { holds = record { some = omega (arith, all, some); not_cr = lexeme_cr u w n (token x) here all }; body = not_inside p.mode u w v.outside };
+      step = λ o s. behind_all p _ _ u o n all
+          (rules.lexeme p (u ++ o) n x (plain_kept p rest u w o n (token x) v l tt is (omega (arith, all, some)) (inr (code_behind p.mode x c))) (lexeme_kept u w o n (token x) here (omega (arith, all)) (inl s)));
+      fresh = refl;
+    }
+last (rules.faults p rest n e v l) = tt
+last (rules.ends_text p closed f c d) = tt
+last (rules.literal p rest n g k v l t e) = λ u w is at c i.
+    let j = n + k + quotes g.quote in
+    let all : j ≡ length u = omega (arith, at) in
+    let some = l.nonempty in
+    let more = quotes_some g.quote in
+    record {
+      at = record { holds = record { some = omega (arith, all, some); not_cr = λ r. omega (arith, all, some, more, ap length r) }; body = not_inside p.mode u w v.outside };
+      step = λ o s. behind_all p _ _ u o j all (literal_kept p rest u w o n g k v l t e is (omega (arith, all)) (inl s) (inr (code_behind p.mode _ c)));
+      fresh = refl;
+    }
+last (rules.unclosed p rest n g k v l t e) = tt
+last (rules.misspelt p rest n g k m v l t e) = tt
+last (rules.enters p rest n g v l t) = λ u w is at c i. absurd (inside_code p.place g c)
+last (rules.texts p b g rest k f c some e) = λ u w is at d i. absurd (inside_code b g (sym c ∙ code_behind p.mode _ d))
+last (rules.leaves p b g rest f c e) = λ u w is at d i.
+    let all : quotes g.quote ≡ length u = omega (arith, at) in
+    let le : quotes g.quote ≤ length u = omega (arith, all) in
+    let here : body g 0 (u ++ w) ≡ ending.Closed 0 = ap (body g 0) (sym is) ∙ e in
+    record {
+      at = record { holds = record { some = omega (arith, all, quotes_some g.quote); not_cr = λ r. body_cr g w (ap (λ y. body g 0 (y ++ w)) (sym r) ∙ here) }; body = (leaves_kept p b g rest u w [] f c e is le).0 };
+      step = λ o s. behind_all p _ _ u o (quotes g.quote) all (leaves_kept p b g rest u w o f c e is le).1;
+      fresh = refl;
+    }
+last (rules.opens_field p b g rest f c e) = λ u w is at d i. absurd (field_code b g [] d)
+last (rules.unfinished p b g rest k f c e) = tt
+last (rules.misspells p b g rest k m f c e) = tt
+last (rules.shuts p b g bs rest f c d) = λ u w is at e i. absurd (inside_code b g e)
+last (rules.bangs p b g bs rest f c d e) = λ u w is at h i. absurd (field_code b g bs (sym c ∙ code_behind p.mode _ h))

@@ -1,0 +1,31 @@
+//! Laws of texts that are cut off behind a lexeme.
+
+ghost use Rattle.std.specs.Prelude.{◌++◌, ◌+◌, ◌<◌, ◌∷◌, ◌≡◌, List, [], length, true, ℕ};
+ghost use Rattle.starlark_lexer.specs.Items.{Item, dedent, indent, item, newline, nothing, with_items};
+ghost use Rattle.starlark_lexer.specs.Joining.{open_behind};
+ghost use Rattle.starlark_lexer.specs.Lex.{Lex, start};
+ghost use Rattle.starlark_cutting.specs.Cutting.{EvenWith, IsClosedBefore, IsClosedOff, IsCutAt, IsDeepened, IsFinished, IsIndented, inner};
+ghost use Rattle.starlark_cutting.specs.Spelling.{Plain, lexemes_of, spellings};
+
+/// A text that is cut off behind a lexeme within a line, outside all f-strings, is cut into the same
+/// up to there with words behind it and a line feed, where brackets are closed then; behind these
+/// words stand the line end and the end of the text. The empty text is cut into a line end.
+pub fn cut_off()
+    ensures empty { Lex start [] (with_items (item 0 newline 0 ∷ []) nothing) }
+    ensures line { (u v : List ℕ) (before : List Item) (z : Item) (behind : List Item) (s : List Plain) → IsCutAt u v before z behind → inner z.lexeme ≡ true → open_behind 0 (before ++ z ∷ []) ≡ 0 → EvenWith (before ++ z ∷ []) (lexemes_of s) → IsFinished u (spellings s) (before ++ z ∷ []) (lexemes_of s) }
+{}
+
+/// A text that is cut off behind a line end, or behind a `Dedent` that is not at the text's end, is
+/// cut into the same up to there, Dedents at its end aside, and the end of the text.
+pub fn cut_off_lines()
+    ensures line { (u v : List ℕ) (before : List Item) (z : Item) (behind : List Item) → IsCutAt u v before z behind → z.lexeme ≡ newline → z.end ≡ z.begin + 1 → IsClosedOff u (before ++ z ∷ []) }
+    ensures dedent { (u v : List ℕ) (before : List Item) (z : Item) (behind : List Item) → IsCutAt u v before z behind → z.lexeme ≡ dedent → 0 < length v → IsClosedBefore u before }
+{}
+
+/// A text that is cut off behind a line end is cut into the same up to there with a deeper line
+/// behind it, and one that is cut off behind an `Indent` with a space and `pass` behind it into the
+/// same before that `Indent`, which is one space wider.
+pub fn cut_off_indents()
+    ensures line { (u v : List ℕ) (before : List Item) (z : Item) (behind : List Item) → IsCutAt u v before z behind → z.lexeme ≡ newline → z.end ≡ z.begin + 1 → IsDeepened u (before ++ z ∷ []) }
+    ensures indent { (u v : List ℕ) (before : List Item) (z : Item) (behind : List Item) → IsCutAt u v before z behind → z.lexeme ≡ indent → IsIndented u (32 ∷ []) before }
+{}

@@ -1,0 +1,4 @@
+//! Laws of texts that are cut off.
+#![tactic(auto)]
+
+pub mod laws;
