@@ -8,7 +8,7 @@ use Rattle.starlark_lexer.specs.Widths.{IsDeeper, Closes}
 use Rattle.starlark_lexer.specs.Classes.{token, IsLexeme, is_blank, leading, blanks, has_tab, spaces, width}
 use Rattle.starlark_lexer.specs.Lex.{Past, Step, Lex, on, goes_on, start, moved, deepened, recorded, mode_behind, IsMeasured, IsBalanced}
 use Rattle.starlark_lexer.specs.Lex as rules
-use Rattle.starlark_cutting.specs.Cutting.{IsIndented, indent_item}
+use Rattle.starlark_cutting.specs.Cutting.{IsIndented, filled_line, indent_item}
 use Rattle.starlark_lexer.specs.Joining.{dedent_item}
 use Rattle.std.proofs.lemmas.List.Sums.{sum_by-append}
 use Rattle.starlark_lexer.proofs.JoinedOn.{count_cons}
@@ -27,7 +27,7 @@ and_yes false b h = absurd (false≢true h)
 
 -- ---- blanks at the front
 
-lead : (bs r : List ℕ) → list_all is_blank bs ≡ true → leading (bs ++ 112 ∷ r) ≡ length bs
+pub lead : (bs r : List ℕ) → list_all is_blank bs ≡ true → leading (bs ++ 112 ∷ r) ≡ length bs
 lead [] r h = refl
 lead (b ∷ bs) r h =
     let k = and_yes (is_blank b) (list_all is_blank bs) h in
@@ -41,12 +41,12 @@ take_front : (w o : List ℕ) → take (length w) (w ++ o) ≡ w
 take_front [] o = refl
 take_front (b ∷ w) o = let e : length (b ∷ w) ≡ suc (length w) = omega arith in ap (λ k. take k (b ∷ w ++ o)) e ∙ ap (λ t. b ∷ t) (take_front w o)
 
-drop_front : (w o : List ℕ) → drop (length w) (w ++ o) ≡ o
+pub drop_front : (w o : List ℕ) → drop (length w) (w ++ o) ≡ o
 drop_front w o = drop-append-le (length w) w o (omega arith) ∙ ap (λ v. v ++ o) (drop_all (length w) w (omega arith))
 
 -- ---- a lexeme right at the place
 
-abbrev pass_bytes : List ℕ
+abbrev pub pass_bytes : List ℕ
 pass_bytes = 112 ∷ 97 ∷ 115 ∷ 115 ∷ []
 
 abbrev pass_past : Past → Past
@@ -57,7 +57,34 @@ pass_put p o m a stop d =
     let l : IsLexeme (pass_bytes ++ o) 4 (token keyword_pass) = alone_lexeme pass_bytes o keyword_pass (omega arith) a_pass stop in
     goes_on p (pass_bytes ++ o) _ (pass_past p) o m (rules.lexeme p (pass_bytes ++ o) 4 keyword_pass (among_plain p pass_bytes o 4 keyword_pass a (omega arith) l) l) d
 
+-- the rest of the line and of the text
+pub pass_line : (p : Past) (still : List ℕ) → Among p → IsBalanced p → Closes p.lines 0 still → Lex p (pass_bytes ++ 10 ∷ []) (filled_line p.place (length still))
+pass_line p still a even shut =
+    let k = length still in
+    let r = pass_past p in
+    let among : Among r = record { fresh = refl; mode = ap (λ m. mode_behind m keyword_pass) a.mode } in
+    let it : Item = item (p.place + 0) keyword_pass (p.place + 0 + 4) in
+    let level : IsBalanced r = omega (arith, even, counted opening_item p.mode it p.items a.mode, counted closing_item p.mode it p.items a.mode) in
+    let d = pass_put p (10 ∷ []) _ a refl (end_line r still among level shut) in
+    let e : p.place + 0 ≡ p.place = omega arith in
+    let f : p.place + 4 + 0 ≡ p.place + 4 = omega arith in
+    let g : p.place + 4 + 1 + 0 ≡ p.place + 4 + 1 = omega arith in
+    subst (λ l. Lex p (pass_bytes ++ 10 ∷ []) l) (λ i. with_items (item (e i) keyword_pass (e i + 4) ∷ item (f i) newline (f i + 1) ∷ item (g i) newline (g i) ∷ dedents (g i) k) nothing) d
+
 -- ---- the line
+
+pub measured : (q : Past) → q.fresh ≡ true → (bs r : List ℕ) → list_all is_blank bs ≡ true → IsMeasured q (bs ++ 112 ∷ r)
+measured q f bs r blank = record {
+  fresh = f;
+  first = 112;
+  more = r;
+  stands = ap (λ k. drop k (bs ++ 112 ∷ r)) (lead bs r blank) ∙ drop_front bs (112 ∷ r);
+  not_line = λ e. omega (arith, e);
+  not_remark = λ e. omega (arith, e);
+}
+
+pub same_blanks : (bs r : List ℕ) → list_all is_blank bs ≡ true → blanks (bs ++ 112 ∷ r) ≡ bs
+same_blanks bs r blank = ap (λ k. take k (bs ++ 112 ∷ r)) (lead bs r blank) ∙ take_front bs (112 ∷ r)
 
 module _ (u : List ℕ) (xs : List Item) (q : Past) (b : Begun u xs q) (bs : List ℕ) (blank : list_all is_blank bs ≡ true) (tab : has_tab bs ≡ false) (deep : IsDeeper q.lines (spaces bs)) where
   abbrev n : ℕ
@@ -69,24 +96,11 @@ module _ (u : List ℕ) (xs : List Item) (q : Past) (b : Begun u xs q) (bs : Lis
   abbrev deep_past : Past
   deep_past = record { place = q.place + n; items = deep_item ∷ q.items; lines = spaces bs ∷ q.lines; fresh = false; mode = q.mode; outer = q.outer }
 
-  measured : (r : List ℕ) → IsMeasured q (bs ++ 112 ∷ r)
-  measured r = record {
-    fresh = b.begins.fresh;
-    first = 112;
-    more = r;
-    stands = ap (λ k. drop k (bs ++ 112 ∷ r)) (lead bs r blank) ∙ drop_front bs (112 ∷ r);
-    not_line = λ e. omega (arith, e);
-    not_remark = λ e. omega (arith, e);
-  }
-
-  same_blanks : (r : List ℕ) → blanks (bs ++ 112 ∷ r) ≡ bs
-  same_blanks r = ap (λ k. take k (bs ++ 112 ∷ r)) (lead bs r blank) ∙ take_front bs (112 ∷ r)
-
   deep_step : (r : List ℕ) → Step q (bs ++ 112 ∷ r) (on (deep_item ∷ []) deep_past (112 ∷ r))
   deep_step r =
       let rest = bs ++ 112 ∷ r in
-      let w : width rest ≡ spaces bs = ap spaces (same_blanks r) in
-      let s = rules.deepens q rest (measured r) (ap has_tab (same_blanks r) ∙ tab) (subst (IsDeeper q.lines) (sym w) deep) in
+      let w : width rest ≡ spaces bs = ap spaces (same_blanks bs r blank) in
+      let s = rules.deepens q rest (measured q b.begins.fresh bs r blank) (ap has_tab (same_blanks bs r blank) ∙ tab) (subst (IsDeeper q.lines) (sym w) deep) in
       let t : Step q rest (deepened q (spaces bs) (leading rest) rest) = subst (λ k. Step q rest (deepened q k (leading rest) rest)) w s in
       let v : Step q rest (deepened q (spaces bs) n rest) = subst (λ k. Step q rest (deepened q (spaces bs) k rest)) (lead bs r blank) t in
       subst (λ k. Step q rest (on (deep_item ∷ []) deep_past k)) (drop_front bs (112 ∷ r)) v
@@ -97,25 +111,15 @@ module _ (u : List ℕ) (xs : List Item) (q : Past) (b : Begun u xs q) (bs : Lis
   pub deepened_text : IsIndented u bs xs
   deepened_text =
       let p = deep_past in
-      let r = pass_past p in
       let step = deep_step (97 ∷ 115 ∷ 115 ∷ 10 ∷ []) in
       let t = both_tracks start xs q (deep_item ∷ []) p b.tracks (tracks step b.tracks.nest b.tracks.fresh) in
       let w = t.widths [] no_lines in
-      let k = length w.still in
-      let a : Among r = record { fresh = refl; mode = ap (λ m. mode_behind m keyword_pass) b.begins.mode } in
-      let it : Item = item (p.place + 0) keyword_pass (p.place + 0 + 4) in
-      let even : IsBalanced r = omega (arith, b.begins.even, count_cons opening_item deep_item q.items, count_cons closing_item deep_item q.items, counted opening_item p.mode it p.items b.begins.mode, counted closing_item p.mode it p.items b.begins.mode) in
-      let shut : Closes r.lines 0 w.still = record { once = w.stack.once; each = λ x. w.stack.each x } in
-      let d = pass_put p (10 ∷ []) _ deep_among refl (end_line r w.still a even shut) in
-      let e : p.place + 0 ≡ p.place = omega arith in
-      let f : p.place + 4 + 0 ≡ p.place + 4 = omega arith in
-      let g : p.place + 4 + 1 + 0 ≡ p.place + 4 + 1 = omega arith in
-      let d2 : Lex p (pass_bytes ++ 10 ∷ []) (with_items (item p.place keyword_pass (p.place + 4) ∷ item (p.place + 4) newline (p.place + 4 + 1) ∷ item (p.place + 4 + 1) newline (p.place + 4 + 1) ∷ dedents (p.place + 4 + 1) k) nothing) =
-      subst (λ l. Lex p (pass_bytes ++ 10 ∷ []) l) (λ i. with_items (item (e i) keyword_pass (e i + 4) ∷ item (f i) newline (f i + 1) ∷ item (g i) newline (g i) ∷ dedents (g i) k) nothing) d in
+      let even : IsBalanced p = omega (arith, b.begins.even, count_cons opening_item deep_item q.items, count_cons closing_item deep_item q.items) in
+      let shut : Closes p.lines 0 w.still = record { once = w.stack.once; each = λ x. w.stack.each x } in
       record {
         begin = q.place;
         place = p.place;
-        count = k;
+        count = length w.still;
         layout = omega (arith, w.count, sum_by-append (λ y. cond (indent_item y) 1 0) xs (deep_item ∷ []), sum_by-append (λ y. cond (dedent_item y) 1 0) xs (deep_item ∷ []));
-        lex = b.lex (bs ++ 112 ∷ 97 ∷ 115 ∷ 115 ∷ 10 ∷ []) _ (goes_on q (bs ++ 112 ∷ 97 ∷ 115 ∷ 115 ∷ 10 ∷ []) (deep_item ∷ []) p (112 ∷ 97 ∷ 115 ∷ 115 ∷ 10 ∷ []) _ step d2);
+        lex = b.lex (bs ++ (pass_bytes ++ 10 ∷ [])) _ (goes_on q (bs ++ (pass_bytes ++ 10 ∷ [])) (deep_item ∷ []) p (pass_bytes ++ 10 ∷ []) _ step (pass_line p w.still deep_among even shut));
       }

@@ -81,7 +81,7 @@ begun_lines l u v is at =
     let c = lined l u v is (omega (arith, at)) tt (λ _. refl) (λ _. refl) in
     record { place = at; begins = c.begins; tracks = c.tracks; lex = c.lex }
 
-no_bytes : (w : List ℕ) → length w ≡ 0 → w ≡ []
+pub no_bytes : (w : List ℕ) → length w ≡ 0 → w ≡ []
 no_bytes [] e = refl
 no_bytes (b ∷ w) e = absurd (omega (arith, e))
 

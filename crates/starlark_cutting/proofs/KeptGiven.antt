@@ -1,5 +1,5 @@
 -- How a line end, a Dedent and an Indent are given.
-use Rattle.std.proofs.Common.{◌≡◌, ◌<◌, ℕ, ◌+◌, Bool, true, false, List, [], ◌∷◌, ◌++◌, length, take, drop, refl, ap, sym, ◌∙◌, arith, zero, suc, inl, inr, length-append}
+use Rattle.std.proofs.Common.{◌≡◌, ◌<◌, ℕ, ◌+◌, Bool, true, false, List, [], ◌∷◌, ◌++◌, length, take, drop, refl, ap, sym, ◌∙◌, arith, zero, suc, inl, inr, subst, length-append}
 use Rattle.std.proofs.lemmas.Bool.{false≢true, cases_Bool}
 use Rattle.std.proofs.lemmas.List.{append-nil}
 use Rattle.starlark_lexer.specs.declared.literal.Sort.{Sort}
@@ -26,7 +26,7 @@ layout _ = false
 
 -- an item of a step, with those of the step before it
 pub data Given (p : Past) (rest : List ℕ) (xs : List Item) (q : Past) (first : List Item) (z : Item) : Type 0 where
-  line : first ≡ [] → xs ≡ z ∷ [] → z.lexeme ≡ newline → z.end ≡ q.place → q.fresh ≡ true → Given p rest xs q first z
+  line : first ≡ [] → xs ≡ z ∷ [] → z.lexeme ≡ newline → z.end ≡ q.place → q.fresh ≡ true → z.end ≡ z.begin + 1 → Given p rest xs q first z
   shallower : (n : ℕ) → first ≡ dedents p.place n → z ≡ item p.place dedent p.place → IsMeasured p rest → ((ws : List ℕ) → IsStack p.lines ws → n < length ws) → Given p rest xs q first z
   deeper : first ≡ [] → z ≡ item p.place indent (p.place + leading rest) → IsMeasured p rest → has_tab (blanks rest) ≡ false → IsDeeper p.lines (width rest) → Given p rest xs q first z
   other : layout z.lexeme ≡ false → Given p rest xs q first z
@@ -36,10 +36,10 @@ Gives p rest (on xs q left) = (first : List Item) (z : Item) (ws : List Item) �
 Gives p rest (over l) = (first : List Item) (z : Item) (ws : List Item) → l.items ≡ first ++ z ∷ ws → (z.end ≡ p.place + length rest) × ((z.begin ≡ z.end) × (is_indent z.lexeme ≡ false))
 
 module _ (p : Past) (rest : List ℕ) (q : Past) where
-  a_line : (it : Item) → it.lexeme ≡ newline → it.end ≡ q.place → q.fresh ≡ true → (first : List Item) (z : Item) (ws : List Item) → it ∷ [] ≡ first ++ z ∷ ws → Given p rest (it ∷ []) q first z
-  a_line it n at f first z ws e =
+  a_line : (it : Item) → it.lexeme ≡ newline → it.end ≡ q.place → q.fresh ≡ true → it.end ≡ it.begin + 1 → (first : List Item) (z : Item) (ws : List Item) → it ∷ [] ≡ first ++ z ∷ ws → Given p rest (it ∷ []) q first z
+  a_line it n at f wide first z ws e =
       let s = single it z first ws e in
-      line s.0 (ap (λ x. x ∷ []) (sym s.1.0)) (ap (λ x. x.lexeme) s.1.0 ∙ n) (ap (λ x. x.end) s.1.0 ∙ at) f
+      line s.0 (ap (λ x. x ∷ []) (sym s.1.0)) (ap (λ x. x.lexeme) s.1.0 ∙ n) (ap (λ x. x.end) s.1.0 ∙ at) f (subst (λ x. x.end ≡ x.begin + 1) (sym s.1.0) wide)
 
   another : (it : Item) → layout it.lexeme ≡ false → (first : List Item) (z : Item) (ws : List Item) → it ∷ [] ≡ first ++ z ∷ ws → Given p rest (it ∷ []) q first z
   another it n first z ws e = let s = single it z first ws e in other (ap (λ x. layout x.lexeme) s.1.0 ∙ n)
@@ -92,7 +92,7 @@ end_over i j n at (y ∷ first) z ws e =
     (ap (λ x. x.end) s ∙ at, (ap (λ x. x.begin) s ∙ sym (ap (λ x. x.end) s), ap (λ x. is_indent x.lexeme) s))
 
 pub given : {p : Past} {rest : List ℕ} {m : Move} → Step p rest m → Gives p rest m
-given (rules.blank_line p rest more f e) = a_line p rest _ _ refl (omega arith) refl
+given (rules.blank_line p rest more f e) = a_line p rest _ _ refl (omega arith) refl refl
 given (rules.remark_line p rest more f e) = another p rest _ _ refl
 given (rules.last_line p rest closed f e c) = end_over (p.place + length rest) (p.place + length rest) (length closed) refl
 given (rules.tabbed p rest m t) = none_over (p.place + length rest)
@@ -102,7 +102,7 @@ given (rules.misfits p rest m t d o) = none_over (p.place + length rest)
 given (rules.passes p b rest f c d) = none p (b ∷ rest) _
 given (rules.escapes p rest f c d) = none p rest _
 given (rules.joins p rest f d) = none p (10 ∷ rest) _
-given (rules.ends_line p rest f c d) = a_line p (10 ∷ rest) _ _ refl (omega arith) refl
+given (rules.ends_line p rest f c d) = a_line p (10 ∷ rest) _ _ refl (omega arith) refl refl
 given (rules.remark p rest f c) = another p (35 ∷ rest) _ _ refl
 given (rules.lexeme p rest n x v l) = let t = token_neutral (take n rest) x l.means in another p rest _ _ (token_not x t.no_line t.level)
 given (rules.faults p rest n e v l) = none_over (p.place + length rest)

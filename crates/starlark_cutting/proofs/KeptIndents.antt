@@ -25,15 +25,15 @@ use Rattle.starlark_cutting.proofs.KeptDeeper.{deepened_text}
 
 -- ---- so many spaces
 
-all_blank : (n : ℕ) → list_all is_blank (blanks_of n) ≡ true
+pub all_blank : (n : ℕ) → list_all is_blank (blanks_of n) ≡ true
 all_blank zero = refl
 all_blank (suc n) = all_blank n
 
-no_tab : (n : ℕ) → has_tab (blanks_of n) ≡ false
+pub no_tab : (n : ℕ) → has_tab (blanks_of n) ≡ false
 no_tab zero = refl
 no_tab (suc n) = no_tab n
 
-wide : (n : ℕ) → spaces (blanks_of n) ≡ n
+pub wide : (n : ℕ) → spaces (blanks_of n) ≡ n
 wide zero = refl
 wide (suc n) = sum_by-cons (λ x. cond (eqb x 32) 1 0) 32 (blanks_of n) ∙ (let k : 1 + spaces (blanks_of n) ≡ suc n = omega (arith, wide n) in k)
 
@@ -109,7 +109,7 @@ record Deeper (p : Past) (rest : List ℕ) (first : List Item) (z : Item) : Type
   deep : IsDeeper p.lines (width rest)
 
 indent_given : {p : Past} {rest : List ℕ} {xs : List Item} {q : Past} {v : List ℕ} (first : List Item) (z : Item) → Step p rest (on xs q v) → Given p rest xs q first z → z.lexeme ≡ indent → Deeper p rest first z
-indent_given first z step (line a b c d e) n = absurd (false≢true (ap is_indent (sym c) ∙ ap is_indent n))
+indent_given first z step (line a b c d e w) n = absurd (false≢true (ap is_indent (sym c) ∙ ap is_indent n))
 indent_given first z step (shallower k a b m c) n = absurd (false≢true (ap (λ x. is_indent x.lexeme) (sym b) ∙ ap is_indent n))
 indent_given first z step (deeper a b m t d) n = record { first_is = a; is = b; measured = m; tab = t; deep = d }
 indent_given first z step (other a) n = absurd (false≢true (sym a ∙ ap layout n))
@@ -132,7 +132,7 @@ pub behind_indent : (u v : List ℕ) (before : List Item) (z : Item) (behind : L
 behind_indent u v before z behind c n =
     let f = find c.lex before z behind refl in
     elim f.given [
-      | inr (l, ws, (step, e)) ↦ absurd (false≢true (sym (given step f.first z ws e).1.1 ∙ ap is_indent n))
+      | inr (l, (step, e)) ↦ absurd (false≢true (sym (given step f.first z behind e.0).1.1 ∙ ap is_indent n))
       | inl (xs, q, left, ws, (step, e)) ↦
           let g = indent_given f.first z step (given step f.first z ws e) n in
           let w = passed f.reach (λ _. refl) tt in

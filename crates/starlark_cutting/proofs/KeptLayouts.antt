@@ -21,8 +21,8 @@ pub record Ended (u : List ℕ) (xs : List Item) : Type 0 where
   pub past : Past
   pub begun : Begun u xs past
 
-line_given : {p : Past} {rest : List ℕ} {xs : List Item} {q : Past} {v : List ℕ} (first : List Item) (z : Item) → Step p rest (on xs q v) → Given p rest xs q first z → z.lexeme ≡ newline → (first ≡ []) × ((xs ≡ z ∷ []) × ((z.end ≡ q.place) × (q.fresh ≡ true)))
-line_given first z step (line a b c d e) n = (a, (b, (d, e)))
+pub line_given : {p : Past} {rest : List ℕ} {xs : List Item} {q : Past} {v : List ℕ} (first : List Item) (z : Item) → Step p rest (on xs q v) → Given p rest xs q first z → z.lexeme ≡ newline → (first ≡ []) × ((xs ≡ z ∷ []) × ((z.end ≡ q.place) × ((q.fresh ≡ true) × (z.end ≡ z.begin + 1))))
+line_given first z step (line a b c d e w) n = (a, (b, (d, (e, w))))
 line_given first z step (shallower k a b m c) n = absurd (false≢true (ap (λ x. is_newline x.lexeme) (sym b) ∙ ap is_newline n))
 line_given first z step (deeper a b m t d) n = absurd (false≢true (ap (λ x. is_newline x.lexeme) (sym b) ∙ ap is_newline n))
 line_given first z step (other a) n = absurd (not_both z.lexeme n a)
@@ -31,10 +31,10 @@ pub line_begun : (u v : List ℕ) (before : List Item) (z : Item) (behind : List
 line_begun u v before z behind c n one =
     let f = find c.lex before z behind refl in
     elim f.given [
-      | inr (l, ws, (step, e)) ↦ absurd (omega (arith, one, (given step f.first z ws e).1.0))
+      | inr (l, (step, e)) ↦ absurd (omega (arith, one, (given step f.first z behind e.0).1.0))
       | inl (xs, q, w, ws, (step, e)) ↦
           let g = line_given f.first z step (given step f.first z ws e) n in
-          let ls = one_more f.reach step g.1.1.1 (ap is_line g.1.0 ∙ ap is_newline n) in
+          let ls = one_more f.reach step g.1.1.1.0 (ap is_line g.1.0 ∙ ap is_newline n) in
           let all : f.front ++ xs ≡ before ++ z ∷ [] = ap (λ y. f.front ++ y) g.1.0 ∙ ap (λ y. y ++ z ∷ []) (sym (append-nil f.front) ∙ ap (λ y. f.front ++ y) (sym g.0) ∙ sym f.is) in
           record { past = q; begun = subst (λ y. Begun u y q) all (begun_lines ls u v refl (sym g.1.1.0 ∙ sym c.length_is)) }
     ]
@@ -59,8 +59,8 @@ pub record Shallower (p : Past) (rest : List ℕ) (first : List Item) (z : Item)
   pub measured : IsMeasured p rest
   pub fewer : (ws : List ℕ) → IsStack p.lines ws → some < length ws
 
-dedent_given : {p : Past} {rest : List ℕ} {xs : List Item} {q : Past} {v : List ℕ} (first : List Item) (z : Item) → Step p rest (on xs q v) → Given p rest xs q first z → z.lexeme ≡ dedent → Shallower p rest first z
-dedent_given first z step (line a b c d e) n = absurd (false≢true (ap is_dedent (sym c) ∙ ap is_dedent n))
+pub dedent_given : {p : Past} {rest : List ℕ} {xs : List Item} {q : Past} {v : List ℕ} (first : List Item) (z : Item) → Step p rest (on xs q v) → Given p rest xs q first z → z.lexeme ≡ dedent → Shallower p rest first z
+dedent_given first z step (line a b c d e w) n = absurd (false≢true (ap is_dedent (sym c) ∙ ap is_dedent n))
 dedent_given first z step (shallower k a b m c) n = record { some = k; first_is = a; is = b; measured = m; fewer = c }
 dedent_given first z step (deeper a b m t d) n = absurd (false≢true (ap (λ x. is_dedent x.lexeme) (sym b) ∙ ap is_dedent n))
 dedent_given first z step (other a) n = absurd (false≢true (sym a ∙ ap layout n))
@@ -70,7 +70,7 @@ behind_dedent u v before z behind c n some =
     let f = find c.lex before z behind refl in
     let far = far_reach f.reach (λ _. refl) tt in
     elim f.given [
-      | inr (l, ws, (step, e)) ↦ absurd (omega (arith, (given step f.first z ws e).0, far.1.0, c.length_is, some, length-append u v))
+      | inr (l, (step, e)) ↦ absurd (omega (arith, (given step f.first z behind e.0).0, far.1.0, c.length_is, some, length-append u v))
       | inl (xs, q, w, ws, (step, e)) ↦
           let g = dedent_given f.first z step (given step f.first z ws e) n in
           let at : f.past.place ≡ length u = sym (ap (λ x. x.end) g.is) ∙ sym c.length_is in

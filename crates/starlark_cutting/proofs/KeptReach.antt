@@ -1,7 +1,8 @@
 -- The steps up to an item that stands behind a line's beginning, one by one.
 use Rattle.std.proofs.Common.{◌≡◌, ◌<◌, ◌≤◌, ◌⊎◌, ℕ, ◌+◌, Bool, true, false, List, [], ◌∷◌, ◌++◌, length, refl, ap, sym, ◌∙◌, arith, inl, inr, subst, append_assoc, length-drop}
+use Rattle.std.specs.Prelude.{Option}
 use Rattle.std.proofs.lemmas.List.{append-nil}
-use Rattle.starlark_lexer.specs.Items.{Item, Lexed, is_newline}
+use Rattle.starlark_lexer.specs.Items.{Item, Stop, Lexed, is_newline}
 use Rattle.starlark_lexer.specs.Lex.{Past, Step, Lex, on, over, goes_on, is_over}
 use Rattle.starlark_cutting.proofs.KeptMoves.{Fresh}
 use Rattle.starlark_cutting.proofs.KeptSteps.{goes}
@@ -40,18 +41,18 @@ one_more {p} {rest} {xs} {q} {left} {ys} {r} {v} (stays _ _) step f l = last q l
 one_more {p} {rest} {xs} {q} {left} {ys} {r} {v} (more _ _ ws q2 left2 zs _ _ first far) step f l =
     subst (λ w. Lines p rest w r v) (sym (append_assoc ws zs ys)) (before p rest ws q2 left2 (zs ++ ys) r v first (one_more far step f l))
 
--- where an item is given
-pub record Found (p : Past) (rest : List ℕ) (zs : List Item) (z : Item) : Type 0 where
+-- where an item is given, before what stands behind it
+pub record Found (p : Past) (rest : List ℕ) (zs : List Item) (z : Item) (ys : List Item) (fault : Option Stop) : Type 0 where
   pub front : List Item
   pub first : List Item
   pub is : zs ≡ front ++ first
   pub past : Past
   pub left : List ℕ
   pub reach : Reach p rest front past left
-  pub given : ((xs : List Item) × (q : Past) × (v : List ℕ) × (ws : List Item) × (Step past left (on xs q v) × (xs ≡ first ++ z ∷ ws))) ⊎ ((l : Lexed) × (ws : List Item) × (Step past left (over l) × (l.items ≡ first ++ z ∷ ws)))
+  pub given : ((xs : List Item) × (q : Past) × (v : List ℕ) × (ws : List Item) × (Step past left (on xs q v) × (xs ≡ first ++ z ∷ ws))) ⊎ ((l : Lexed) × (Step past left (over l) × ((l.items ≡ first ++ z ∷ ys) × (l.fault ≡ fault))))
 
-pub find : {p : Past} {rest : List ℕ} {l : Lexed} → Lex p rest l → (zs : List Item) (z : Item) (ys : List Item) → l.items ≡ zs ++ z ∷ ys → Found p rest zs z
-find (is_over p rest l step) zs z ys e = record { front = []; first = zs; is = refl; past = p; left = rest; reach = stays p rest; given = inr (l, ys, (step, e)) }
+pub find : {p : Past} {rest : List ℕ} {l : Lexed} → Lex p rest l → (zs : List Item) (z : Item) (ys : List Item) → l.items ≡ zs ++ z ∷ ys → Found p rest zs z ys l.fault
+find (is_over p rest l step) zs z ys e = record { front = []; first = zs; is = refl; past = p; left = rest; reach = stays p rest; given = inr (l, (step, (e, refl))) }
 find (goes_on p rest xs q left l step d) zs z ys e = elim (split xs l.items zs z ys e) [
   | inr h ↦ record { front = []; first = zs; is = refl; past = p; left = rest; reach = stays p rest; given = inl (xs, q, left, h.0, (step, h.1)) }
   | inl h ↦

@@ -39,7 +39,7 @@ parts (x ∷ ws) w = elim (cases_Bool (leb x w)) [
   | inr e ↦ let f : ltb w x ≡ true = grind (arith, nat_tests) in rw (e, f) (omega (arith, parts ws w))
 ]
 
-dedents_indents : (i n : ℕ) → count_by indent_item (dedents i n) ≡ 0
+pub dedents_indents : (i n : ℕ) → count_by indent_item (dedents i n) ≡ 0
 dedents_indents i zero = refl
 dedents_indents i (suc n) = dedents_indents i n
 

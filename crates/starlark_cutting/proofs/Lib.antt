@@ -21,3 +21,5 @@ mod KeptGiven
 mod KeptLayouts
 mod KeptDeeper
 mod KeptIndents
+mod KeptFilled
+mod KeptOver

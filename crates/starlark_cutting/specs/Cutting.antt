@@ -1,5 +1,5 @@
 -- A text that is cut off behind one of its lexemes, and what it is cut into with other bytes behind it.
-use Rattle.std.specs.Prelude.{◌≡◌, ◌<◌, ◌+◌, ℕ, zero, suc, Bool, true, false, List, [], ◌∷◌, ◌++◌, length, map, count_by, Option}
+use Rattle.std.specs.Prelude.{◌≡◌, ◌<◌, ◌+◌, ℕ, zero, suc, Bool, true, false, List, [], ◌∷◌, ◌++◌, length, map, count_by, Option, None}
 use Rattle.starlark_lexer.specs.Items.{Lexeme, newline, comment, indent, dedent, keyword_pass, dedents, is_opening, is_closing, Item, item, Stop, Lexed, nothing, with_items, opening_item, closing_item}
 use Rattle.starlark_lexer.specs.Lex.{Lex, start}
 use Rattle.starlark_lexer.specs.Joining.{is_indent, dedent_item, outside}
@@ -73,3 +73,25 @@ pub record IsIndented (text blanks : List ℕ) (front : List Item) : Type 0 wher
 pub record IsDeepened (text : List ℕ) (front : List Item) : Type 0 where
   pub spaces : ℕ
   pub indented : IsIndented text (blanks_of spaces) front
+
+-- `pass`, its line end and the end of the text, where so many widths are open
+abbrev pub filled_line : ℕ → ℕ → Lexed
+filled_line place count =
+    with_items (item place keyword_pass (place + 4) ∷ item (place + 4) newline (place + 4 + 1) ∷ item (place + 4 + 1) newline (place + 4 + 1) ∷ dedents (place + 4 + 1) count) nothing
+
+-- The text with some number of spaces, `pass` and a line feed behind it is cut into the items of the front, `pass`, the line end and the
+-- end of the text, where as many Dedents stand as widths are open.
+pub record IsFilled (text : List ℕ) (front : List Item) : Type 0 where
+  pub spaces : ℕ
+  pub place : ℕ
+  pub count : ℕ
+  pub layout : count_by indent_item front ≡ count_by dedent_item front + count
+  pub lex : Lex start (text ++ (blanks_of spaces ++ 112 ∷ 97 ∷ 115 ∷ 115 ∷ 10 ∷ [])) (with_items front (filled_line place count))
+
+-- Nothing stands behind z but the Dedents of the text's end, of which there are as many as widths are open behind z, and there is no fault.
+pub record IsEnded (u v : List ℕ) (before : List Item) (z : Item) (behind : List Item) (fault : Option Stop) : Type 0 where
+  pub whole : v ≡ []
+  pub no_fault : fault ≡ None
+  pub count : ℕ
+  pub layout : count_by indent_item (before ++ z ∷ []) ≡ count_by dedent_item (before ++ z ∷ []) + count
+  pub rest : behind ≡ dedents (length u) count

@@ -1,10 +1,10 @@
 //! Laws of texts that are cut off behind a lexeme.
 
-ghost use Rattle.std.specs.Prelude.{◌++◌, ◌+◌, ◌<◌, ◌∷◌, ◌≡◌, List, [], length, true, ℕ};
+ghost use Rattle.std.specs.Prelude.{◌++◌, ◌+◌, ◌<◌, ◌∷◌, ◌≡◌, ◌⊎◌, List, [], length, true, ℕ};
 ghost use Rattle.starlark_lexer.specs.Items.{Item, dedent, indent, item, newline, nothing, with_items};
 ghost use Rattle.starlark_lexer.specs.Joining.{open_behind};
 ghost use Rattle.starlark_lexer.specs.Lex.{Lex, start};
-ghost use Rattle.starlark_cutting.specs.Cutting.{EvenWith, IsClosedBefore, IsClosedOff, IsCutAt, IsDeepened, IsFinished, IsIndented, inner};
+ghost use Rattle.starlark_cutting.specs.Cutting.{EvenWith, IsClosedBefore, IsClosedOff, IsCutAt, IsDeepened, IsEnded, IsFilled, IsFinished, IsIndented, inner};
 ghost use Rattle.starlark_cutting.specs.Spelling.{Plain, lexemes_of, spellings};
 
 /// A text that is cut off behind a lexeme within a line, outside all f-strings, is cut into the same
@@ -28,4 +28,22 @@ pub fn cut_off_lines()
 pub fn cut_off_indents()
     ensures line { (u v : List ℕ) (before : List Item) (z : Item) (behind : List Item) → IsCutAt u v before z behind → z.lexeme ≡ newline → z.end ≡ z.begin + 1 → IsDeepened u (before ++ z ∷ []) }
     ensures indent { (u v : List ℕ) (before : List Item) (z : Item) (behind : List Item) → IsCutAt u v before z behind → z.lexeme ≡ indent → IsIndented u (32 ∷ []) before }
+{}
+
+/// A text that is cut off behind a line end is cut into the same up to there with a line of the
+/// innermost open width behind it, which closes none.
+pub fn cut_off_blocks()
+    ensures line { (u v : List ℕ) (before : List Item) (z : Item) (behind : List Item) → IsCutAt u v before z behind → z.lexeme ≡ newline → z.end ≡ z.begin + 1 → IsFilled u (before ++ z ∷ []) }
+{}
+
+/// Behind a line end of no width, and behind a `Dedent` that stands at the very end of the text,
+/// nothing stands but the Dedents of the text's end, and the text is cut without fault.
+pub fn cut_off_whole()
+    ensures newline { (u v : List ℕ) (before : List Item) (z : Item) (behind : List Item) (c : IsCutAt u v before z behind) → z.lexeme ≡ newline → z.end ≡ z.begin → IsEnded u v before z behind c.fault }
+    ensures dedent { (u v : List ℕ) (before : List Item) (z : Item) (behind : List Item) (c : IsCutAt u v before z behind) → z.lexeme ≡ dedent → v ≡ [] → IsEnded u v before z behind c.fault }
+{}
+
+/// A line end is one byte wide, or has no width.
+pub fn cut_off_kinds()
+    ensures newline_width { (u v : List ℕ) (before : List Item) (z : Item) (behind : List Item) → IsCutAt u v before z behind → z.lexeme ≡ newline → (z.end ≡ z.begin) ⊎ (z.end ≡ z.begin + 1) }
 {}
