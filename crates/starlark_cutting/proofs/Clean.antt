@@ -1,4 +1,4 @@
--- A text with a space, a CR or a line feed in it is in no class of lexemes.
+-- A text with a blank or a line feed in it is in no class of lexemes.
 use Rattle.std.proofs.Common.{◌≡◌, ◌<◌, ◌≤◌, ◌⊎◌, ℕ, Bool, true, false, not, ◌&&◌, ◌||◌, List, [], ◌∷◌, length, take, drop, get_or, refl, ap, sym, ◌∙◌, arith, inl, inr, eqb, ltb, one-add}
 use Rattle.std.specs.Prelude.{Option, Some, None}
 use Rattle.std.proofs.lemmas.Bool.{cases_Bool, false≢true}
@@ -16,26 +16,32 @@ use Rattle.starlark_lexer.specs.declared.token.FStringQuote.{FStringQuote}
 use Rattle.starlark_lexer.specs.Literals.{opening_of, opened, prefix_of, quote_of, letters}
 use Rattle.starlark_lexer.specs.Classes.{meaning, is_word, is_word_byte, begins_word, is_digits, is_zeros, is_based, radix_of, is_digits_of, is_radix_digits, is_signed, is_exponent, ends_float, is_fraction, begins_number, is_float, behind_digits, operators, operator_of, lookup, is_other, is_continuation, is_nil, is_blank}
 
--- neither a space nor a CR nor a line feed
+-- neither a blank nor a line feed
 abbrev pub clean : ℕ → Bool
-clean b = not (eqb b 32 || (eqb b 13 || eqb b 10))
+clean b = not (is_blank b || eqb b 10)
 
-unclean : (b : ℕ) → clean b ≡ false → (b ≡ 32) ⊎ ((b ≡ 13) ⊎ (b ≡ 10))
+unclean : (b : ℕ) → clean b ≡ false → (b ≡ 32) ⊎ ((b ≡ 9) ⊎ ((b ≡ 13) ⊎ (b ≡ 10)))
 unclean b h = elim (cases_Bool (eqb b 32)) [
   | inl e ↦ inl (let t : b ≡ 32 = grind (arith, nat_tests) in t)
-  | inr e ↦ elim (cases_Bool (eqb b 13)) [
-    | inl f ↦ inr (inl (let t : b ≡ 13 = grind (arith, nat_tests) in t))
-    | inr f ↦ inr (inr (let t : b ≡ 10 = grind (arith, nat_tests) in t))
+  | inr e ↦ elim (cases_Bool (eqb b 9)) [
+    | inl f ↦ inr (inl (let t : b ≡ 9 = grind (arith, nat_tests) in t))
+    | inr f ↦ elim (cases_Bool (eqb b 13)) [
+      | inl g ↦ inr (inr (inl (let t : b ≡ 13 = grind (arith, nat_tests) in t)))
+      | inr g ↦ inr (inr (inr (let t : b ≡ 10 = grind (arith, nat_tests) in t)))
+    ]
   ]
 ]
 
--- what fails at those three
-failing : (p : ℕ → Bool) → p 32 ≡ false → p 13 ≡ false → p 10 ≡ false → (b : ℕ) → p b ≡ true → clean b ≡ true
-failing p h k l b t = elim (cases_Bool (clean b)) [
+-- what fails at those four
+failing : (p : ℕ → Bool) → p 32 ≡ false → p 9 ≡ false → p 13 ≡ false → p 10 ≡ false → (b : ℕ) → p b ≡ true → clean b ≡ true
+failing p h j k l b t = elim (cases_Bool (clean b)) [
   | inl c ↦ c
   | inr c ↦ elim (unclean b c) [
     | inl e ↦ absurd (false≢true (sym h ∙ ap p (sym e) ∙ t))
-    | inr o ↦ elim o [ inl e ↦ absurd (false≢true (sym k ∙ ap p (sym e) ∙ t)) | inr e ↦ absurd (false≢true (sym l ∙ ap p (sym e) ∙ t)) ]
+    | inr n ↦ elim n [
+      | inl e ↦ absurd (false≢true (sym j ∙ ap p (sym e) ∙ t))
+      | inr o ↦ elim o [ inl e ↦ absurd (false≢true (sym k ∙ ap p (sym e) ∙ t)) | inr e ↦ absurd (false≢true (sym l ∙ ap p (sym e) ∙ t)) ]
+    ]
   ]
 ]
 
@@ -104,13 +110,13 @@ radix_most b =
 
 -- no radix has one of them for a digit
 of_radix : (r b : ℕ) → r ≤ 16 → is_digit b r ≡ true → clean b ≡ true
-of_radix r b le h = failing (λ c. is_digit c r) (none r le) (none r le) (none r le) b h
+of_radix r b le h = failing (λ c. is_digit c r) (none r le) (none r le) (none r le) (none r le) b h
   where
     none : (r : ℕ) → r ≤ 16 → ltb 36 r ≡ false
     none r le = grind (arith, nat_tests)
 
 letter_clean : (b : ℕ) → ltb 0 (radix_of b) ≡ true → clean b ≡ true
-letter_clean b h = failing (λ c. ltb 0 (radix_of c)) refl refl refl b h
+letter_clean b h = failing (λ c. ltb 0 (radix_of c)) refl refl refl refl b h
 
 of_clean : (r : ℕ) (w : List ℕ) → r ≤ 16 → is_digits_of r w ≡ true → all_clean w ≡ true
 of_clean r [] le h = absurd (false≢true h)
@@ -182,7 +188,7 @@ some_is o x e = ap is_some e
 
 prefix_clean : (w : List ℕ) (p : Sort × Bool) → prefix_of w ≡ Some p → all_clean w ≡ true
 prefix_clean [] p h = refl
-prefix_clean (a ∷ []) p h = joint (clean a) true (failing (λ c. is_some (prefix_of (c ∷ []))) refl refl refl a (some_is _ p h)) refl
+prefix_clean (a ∷ []) p h = joint (clean a) true (failing (λ c. is_some (prefix_of (c ∷ []))) refl refl refl refl a (some_is _ p h)) refl
 prefix_clean (a ∷ b ∷ []) p h =
     elim (cases_Bool ((eqb a 114 && eqb b 98) || (eqb a 98 && eqb b 114))) [
       | inl e ↦ first a b e
@@ -201,7 +207,7 @@ prefix_clean (a ∷ b ∷ c ∷ w) p h = absurd (some_not p h)
 
 quote_clean : (w : List ℕ) (q : FStringQuote) → quote_of w ≡ Some q → all_clean w ≡ true
 quote_clean [] q h = refl
-quote_clean (a ∷ []) q h = joint (clean a) true (failing (λ c. is_some (quote_of (c ∷ []))) refl refl refl a (some_is _ q h)) refl
+quote_clean (a ∷ []) q h = joint (clean a) true (failing (λ c. is_some (quote_of (c ∷ []))) refl refl refl refl a (some_is _ q h)) refl
 quote_clean (a ∷ b ∷ []) q h = absurd (some_not q h)
 quote_clean (a ∷ b ∷ c ∷ []) q h =
     elim (cases_Bool (eqb a 39 && eqb b 39 && eqb c 39)) [

@@ -1,4 +1,4 @@
--- A text that is cut off behind one of its lexemes is cut into the same up to there, whatever stands behind a space, a CR or a line feed.
+-- A text that is cut off behind one of its lexemes is cut into the same up to there, whatever stands behind a blank or a line feed.
 use Rattle.std.proofs.Common.{◌≡◌, ◌≤◌, ℕ, ◌+◌, Bool, true, false, cond, List, [], ◌∷◌, ◌++◌, length, drop, refl, ap, sym, ◌∙◌, arith, inl, subst, append_assoc, length-drop}
 use Rattle.std.specs.Prelude.{count_by}
 use Rattle.std.proofs.lemmas.List.{drop-append-le}
@@ -17,16 +17,16 @@ use Rattle.starlark_cutting.proofs.KeptFinal.{one_inner, last}
 
 -- ---- steps one behind the other
 
-counted : (f : Item → Bool) (d e : ℕ) (xs ys : List Item) → open_behind d xs ≡ e → count_by f (outside d (xs ++ ys)) ≡ count_by f (outside d xs) + count_by f (outside e ys)
-counted f d e xs ys h = ap (count_by f) (outside_append d xs ys ∙ ap (λ k. outside d xs ++ outside k ys) h) ∙ sum_by-append (λ y. cond (f y) 1 0) (outside d xs) (outside e ys)
+pub outside_counted : (f : Item → Bool) (d e : ℕ) (xs ys : List Item) → open_behind d xs ≡ e → count_by f (outside d (xs ++ ys)) ≡ count_by f (outside d xs) + count_by f (outside e ys)
+outside_counted f d e xs ys h = ap (count_by f) (outside_append d xs ys ∙ ap (λ k. outside d xs ++ outside k ys) h) ∙ sum_by-append (λ y. cond (f y) 1 0) (outside d xs) (outside e ys)
 
 pub both_tracks : (p : Past) (xs : List Item) (q : Past) (ys : List Item) (r : Past) → Tracks p xs q → Tracks q ys r → Tracks p (xs ++ ys) r
 both_tracks p xs q ys r a b =
     let d = length p.outer in
     let e = length q.outer in
     record {
-      opened = omega (arith, a.opened, b.opened, counted opening_item d e xs ys a.strings);
-      closed = omega (arith, a.closed, b.closed, counted closing_item d e xs ys a.strings);
+      opened = omega (arith, a.opened, b.opened, outside_counted opening_item d e xs ys a.strings);
+      closed = omega (arith, a.closed, b.closed, outside_counted closing_item d e xs ys a.strings);
       strings = open_append d xs ys ∙ ap (λ k. open_behind k ys) a.strings ∙ b.strings;
       nest = b.nest;
       fresh = b.fresh;

@@ -1,4 +1,4 @@
--- The step whose item ends where what is kept of a text ends: it is one there where a space, a CR or a line feed stands behind.
+-- The step whose item ends where what is kept of a text ends: it is one there where a blank or a line feed stands behind.
 use Rattle.std.proofs.Common.{◌≡◌, ◌<◌, ◌≤◌, ℕ, ◌+◌, ◌-◌, Bool, true, false, List, [], ◌∷◌, ◌++◌, length, take, drop, refl, ap, sym, ◌∙◌, arith, zero, suc, inl, inr, eqb, subst}
 use Rattle.std.specs.Prelude.{Option, Some, None}
 use Rattle.std.proofs.lemmas.Bool.{false≢true}
@@ -9,11 +9,11 @@ use Rattle.starlark_lexer.specs.declared.literal.Ending.TheVariants as ending
 use Rattle.starlark_lexer.specs.declared.literal.Piece.TheVariants.{Nothing}
 use Rattle.starlark_lexer.specs.declared.token.FStringQuote.{FStringQuote}
 use Rattle.starlark_lexer.specs.declared.token.FStringQuote.TheVariants.{Single, Double, TripleSingle, TripleDouble}
-use Rattle.starlark_lexer.specs.Items.{Lexeme, Item, dedents}
-use Rattle.starlark_lexer.specs.Literals.{body, read, by_piece, piece, mark, later, quotes}
+use Rattle.starlark_lexer.specs.Items.{Lexeme, Item, dedents, fstring_end}
+use Rattle.starlark_lexer.specs.Literals.{body, read, by_piece, piece, mark, later, quotes, value, is_format}
 use Rattle.starlark_lexer.specs.Depth.{Bracket}
-use Rattle.starlark_lexer.specs.Classes.{Meaning, meaning, token, IsLexeme}
-use Rattle.starlark_lexer.specs.Lex.{Mode, Past, Move, Step, on, over, mode_behind, is_inside}
+use Rattle.starlark_lexer.specs.Classes.{Meaning, meaning, token, opens, IsLexeme}
+use Rattle.starlark_lexer.specs.Lex.{Mode, Past, Move, Step, on, over, mode_behind, is_inside, below, gives, turns, literal_lexeme, IsPlain}
 use Rattle.starlark_lexer.specs.Lex as rules
 use Rattle.starlark_cutting.specs.Cutting.{inner}
 use Rattle.starlark_cutting.proofs.Clean.{stop_none}
@@ -32,15 +32,15 @@ dedents_not i zero = refl
 dedents_not i (suc zero) = refl
 dedents_not i (suc (suc n)) = refl
 
-code_behind : (m : Mode) (x : Lexeme) → mode_behind m x ≡ rules.code → m ≡ rules.code
+pub code_behind : (m : Mode) (x : Lexeme) → mode_behind m x ≡ rules.code → m ≡ rules.code
 code_behind rules.code x e = refl
 code_behind (rules.inside b g) x e = absurd (cc)
 code_behind (rules.field b g bs) x e = absurd (cc)
 
-inside_code : (b : ℕ) (g : Form) → rules.inside b g ≡ rules.code → ⊥
+pub inside_code : (b : ℕ) (g : Form) → rules.inside b g ≡ rules.code → ⊥
 inside_code b g e = cc
 
-field_code : (b : ℕ) (g : Form) (bs : List Bracket) → rules.field b g bs ≡ rules.code → ⊥
+pub field_code : (b : ℕ) (g : Form) (bs : List Bracket) → rules.field b g bs ≡ rules.code → ⊥
 field_code b g bs e = cc
 
 -- ---- a CR alone is no lexeme, and ends no literal
@@ -92,6 +92,47 @@ behind_all p xs q u o k e step =
     let all : drop k (u ++ o) ≡ o = drop-append-le k u o (omega (arith, e)) ∙ ap (λ w. w ++ o) (drop_all k u (omega (arith, e))) in
     subst (λ w. Step p (u ++ o) (on xs q w)) all step
 
+-- A step that ends where what is kept ends, among lexemes.
+abbrev pub Ends : Past → List ℕ → Move → Type 0
+Ends p rest (on xs q more) = (u v : List ℕ) → rest ≡ u ++ v → q.place ≡ p.place + length u → q.mode ≡ rules.code → Stepped p xs q u v
+Ends p rest (over l) = Unit {0}
+
+pub lexeme_ends : (p : Past) (rest : List ℕ) (n : ℕ) (x : Lexeme) → IsPlain p rest → IsLexeme rest n (token x) → Ends p rest (gives p 0 x n n false rest)
+lexeme_ends p rest n x v l = λ u w is at c.
+    let all : n ≡ length u = omega (arith, at) in
+    let here = subst (λ r. IsLexeme r n (token x)) is l in
+    let some = l.nonempty in
+    record {
+      at = record { holds = record { some = omega (arith, all, some); not_cr = lexeme_cr u w n (token x) here all }; body = not_inside p.mode u w v.outside };
+      step = λ o s. behind_all p _ _ u o n all
+          (rules.lexeme p (u ++ o) n x (plain_kept p rest u w o n (token x) v l tt is (omega (arith, all, some)) (inr (code_behind p.mode x c))) (lexeme_kept u w o n (token x) here (omega (arith, all)) (inl s)));
+      fresh = refl;
+    }
+
+pub literal_ends : (p : Past) (rest : List ℕ) (n : ℕ) (g : Form) (k : ℕ) → IsPlain p rest → IsLexeme rest n (opens g) → is_format g.sort ≡ false → body g 0 (drop n rest) ≡ ending.Closed k
+    → Ends p rest (gives p 0 (literal_lexeme g.sort (value g (take k (drop n rest)))) (n + k + quotes g.quote) (n + k + quotes g.quote) false rest)
+literal_ends p rest n g k v l t e = λ u w is at c.
+    let j = n + k + quotes g.quote in
+    let all : j ≡ length u = omega (arith, at) in
+    let some = l.nonempty in
+    let more = quotes_some g.quote in
+    record {
+      at = record { holds = record { some = omega (arith, all, some); not_cr = λ r. omega (arith, all, some, more, ap length r) }; body = not_inside p.mode u w v.outside };
+      step = λ o s. behind_all p _ _ u o j all (literal_kept p rest u w o n g k v l t e is (omega (arith, all)) (inl s) (inr (code_behind p.mode _ c)));
+      fresh = refl;
+    }
+
+pub leaves_ends : (p : Past) (b : ℕ) (g : Form) (rest : List ℕ) → p.fresh ≡ false → p.mode ≡ rules.inside b g → body g 0 rest ≡ ending.Closed 0 → Ends p rest (turns p fstring_end (quotes g.quote) (below p.outer) (drop 1 p.outer) rest)
+leaves_ends p b g rest f c e = λ u w is at d.
+    let all : quotes g.quote ≡ length u = omega (arith, at) in
+    let le : quotes g.quote ≤ length u = omega (arith, all) in
+    let here : body g 0 (u ++ w) ≡ ending.Closed 0 = ap (body g 0) (sym is) ∙ e in
+    record {
+      at = record { holds = record { some = omega (arith, all, quotes_some g.quote); not_cr = λ r. body_cr g w (ap (λ y. body g 0 (y ++ w)) (sym r) ∙ here) }; body = (leaves_kept p b g rest u w [] f c e is le).0 };
+      step = λ o s. behind_all p _ _ u o (quotes g.quote) all (leaves_kept p b g rest u w o f c e is le).1;
+      fresh = refl;
+    }
+
 abbrev pub Last : Past → List ℕ → Move → Type 0
 Last p rest (on xs q more) = (u v : List ℕ) → rest ≡ u ++ v → q.place ≡ p.place + length u → q.mode ≡ rules.code → one_inner xs ≡ true → Stepped p xs q u v
 Last p rest (over l) = Unit {0}
@@ -109,41 +150,15 @@ last (rules.escapes p rest f c d) = λ u v is at e i. absurd (false≢true i)
 last (rules.joins p rest f d) = λ u v is at e i. absurd (false≢true i)
 last (rules.ends_line p rest f c d) = λ u v is at e i. absurd (false≢true i)
 last (rules.remark p rest f c) = λ u v is at e i. absurd (false≢true i)
-last (rules.lexeme p rest n x v l) = λ u w is at c i.
-    let all : n ≡ length u = omega (arith, at) in
-    let here = subst (λ r. IsLexeme r n (token x)) is l in
-    let some = l.nonempty in
-    record {
-      at = record { holds = record { some = omega (arith, all, some); not_cr = lexeme_cr u w n (token x) here all }; body = not_inside p.mode u w v.outside };
-      step = λ o s. behind_all p _ _ u o n all
-          (rules.lexeme p (u ++ o) n x (plain_kept p rest u w o n (token x) v l tt is (omega (arith, all, some)) (inr (code_behind p.mode x c))) (lexeme_kept u w o n (token x) here (omega (arith, all)) (inl s)));
-      fresh = refl;
-    }
+last (rules.lexeme p rest n x v l) = λ u w is at c i. lexeme_ends p rest n x v l u w is at c
 last (rules.faults p rest n e v l) = tt
 last (rules.ends_text p closed f c d) = tt
-last (rules.literal p rest n g k v l t e) = λ u w is at c i.
-    let j = n + k + quotes g.quote in
-    let all : j ≡ length u = omega (arith, at) in
-    let some = l.nonempty in
-    let more = quotes_some g.quote in
-    record {
-      at = record { holds = record { some = omega (arith, all, some); not_cr = λ r. omega (arith, all, some, more, ap length r) }; body = not_inside p.mode u w v.outside };
-      step = λ o s. behind_all p _ _ u o j all (literal_kept p rest u w o n g k v l t e is (omega (arith, all)) (inl s) (inr (code_behind p.mode _ c)));
-      fresh = refl;
-    }
+last (rules.literal p rest n g k v l t e) = λ u w is at c i. literal_ends p rest n g k v l t e u w is at c
 last (rules.unclosed p rest n g k v l t e) = tt
 last (rules.misspelt p rest n g k m v l t e) = tt
 last (rules.enters p rest n g v l t) = λ u w is at c i. absurd (inside_code p.place g c)
 last (rules.texts p b g rest k f c some e) = λ u w is at d i. absurd (inside_code b g (sym c ∙ code_behind p.mode _ d))
-last (rules.leaves p b g rest f c e) = λ u w is at d i.
-    let all : quotes g.quote ≡ length u = omega (arith, at) in
-    let le : quotes g.quote ≤ length u = omega (arith, all) in
-    let here : body g 0 (u ++ w) ≡ ending.Closed 0 = ap (body g 0) (sym is) ∙ e in
-    record {
-      at = record { holds = record { some = omega (arith, all, quotes_some g.quote); not_cr = λ r. body_cr g w (ap (λ y. body g 0 (y ++ w)) (sym r) ∙ here) }; body = (leaves_kept p b g rest u w [] f c e is le).0 };
-      step = λ o s. behind_all p _ _ u o (quotes g.quote) all (leaves_kept p b g rest u w o f c e is le).1;
-      fresh = refl;
-    }
+last (rules.leaves p b g rest f c e) = λ u w is at d i. leaves_ends p b g rest f c e u w is at d
 last (rules.opens_field p b g rest f c e) = λ u w is at d i. absurd (field_code b g [] d)
 last (rules.unfinished p b g rest k f c e) = tt
 last (rules.misspells p b g rest k m f c e) = tt

@@ -85,7 +85,7 @@ pub no_bytes : (w : List ℕ) → length w ≡ 0 → w ≡ []
 no_bytes [] e = refl
 no_bytes (b ∷ w) e = absurd (omega (arith, e))
 
-nothing_yet : Begun [] [] start
+pub nothing_yet : Begun [] [] start
 nothing_yet = record {
   place = refl;
   begins = record { fresh = refl; mode = refl; even = refl };

@@ -66,7 +66,7 @@ deeper_line u v before z behind c is one =
 -- ---- an Indent
 
 -- what is passed by the steps
-passed : {p : Past} {rest : List ℕ} {xs : List Item} {q : Past} {v : List ℕ} → Reach p rest xs q v → Fresh p → Nest p.mode p.outer → (w : List ℕ) × ((rest ≡ w ++ v) × (q.place ≡ p.place + length w))
+pub passed : {p : Past} {rest : List ℕ} {xs : List Item} {q : Past} {v : List ℕ} → Reach p rest xs q v → Fresh p → Nest p.mode p.outer → (w : List ℕ) × ((rest ≡ w ++ v) × (q.place ≡ p.place + length w))
 passed (stays p rest) fr nest = ([], (refl, omega arith))
 passed (more p rest xs q left ys r v step far) fr nest =
     let k = goes step fr in

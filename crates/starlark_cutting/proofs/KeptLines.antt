@@ -10,7 +10,7 @@ use Rattle.starlark_lexer.specs.Classes.{Meaning, meaning, token, refused, opens
 use Rattle.starlark_cutting.proofs.Clean.{clean, stop_none}
 use Rattle.starlark_lexer.proofs.JoinedBodies.{Ended}
 
--- a space, a CR or a line feed stands first
+-- a blank or a line feed stands first
 abbrev pub Stops : List ℕ → Type 0
 Stops [] = ⊥
 Stops (b ∷ bs) = clean b ≡ false

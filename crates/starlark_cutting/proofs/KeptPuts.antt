@@ -11,7 +11,7 @@ use Rattle.starlark_lexer.specs.Lex.{Mode, Past, Move, Step, Lex, on, over, IsPl
 use Rattle.starlark_lexer.specs.Lex as rules
 use Rattle.starlark_cutting.proofs.KeptLines.{Stops, past_none, first_not, unescaped}
 
--- the text is the lexeme where a space, a CR or a line feed stands behind it
+-- the text is the lexeme where a blank or a line feed stands behind it
 pub alone_lexeme : (w o : List ℕ) (x : Lexeme) → 0 < length w → meaning w ≡ Some (token x) → Stops o → IsLexeme (w ++ o) (length w) (token x)
 alone_lexeme w o x some means stop = record {
   nonempty = some;

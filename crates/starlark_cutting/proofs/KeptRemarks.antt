@@ -9,13 +9,13 @@ len_cons : (b : ℕ) (bs : List ℕ) → line_len (b ∷ bs) ≡ cond (eqb (line
 unfolding line_len
 len_cons b bs = refl
 
-len_zero : (b : ℕ) (bs : List ℕ) → eqb (line_end (b ∷ bs)) 0 ≡ false → line_len (b ∷ bs) ≡ 0
+pub len_zero : (b : ℕ) (bs : List ℕ) → eqb (line_end (b ∷ bs)) 0 ≡ false → line_len (b ∷ bs) ≡ 0
 len_zero b bs f = len_cons b bs ∙ ap (λ x. cond x (suc (line_len bs)) 0) f
 
-len_more : (b : ℕ) (bs : List ℕ) → eqb (line_end (b ∷ bs)) 0 ≡ true → line_len (b ∷ bs) ≡ suc (line_len bs)
+pub len_more : (b : ℕ) (bs : List ℕ) → eqb (line_end (b ∷ bs)) 0 ≡ true → line_len (b ∷ bs) ≡ suc (line_len bs)
 len_more b bs t = len_cons b bs ∙ ap (λ x. cond x (suc (line_len bs)) 0) t
 
-len_nil : line_len [] ≡ 0
+pub len_nil : line_len [] ≡ 0
 unfolding line_len
 len_nil = refl
 
@@ -27,7 +27,7 @@ end_some : (n : ℕ) → eqb n 0 ≡ false → 0 < n
 end_some n h = grind (arith, nat_tests)
 
 -- with its line end
-abbrev whole_len : List ℕ → ℕ
+abbrev pub whole_len : List ℕ → ℕ
 whole_len xs = line_len xs + line_end (drop (line_len xs) xs)
 
 whole_zero : (b : ℕ) (bs : List ℕ) → eqb (line_end (b ∷ bs)) 0 ≡ false → whole_len (b ∷ bs) ≡ line_end (b ∷ bs)

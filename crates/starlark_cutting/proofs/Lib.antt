@@ -23,3 +23,9 @@ mod KeptDeeper
 mod KeptIndents
 mod KeptFilled
 mod KeptOver
+mod KeptFeeds
+mod KeptFront
+mod KeptContinued
+mod KeptTail
+mod KeptLast
+mod KeptClosing

@@ -1,8 +1,8 @@
 -- A text that is cut off behind one of its lexemes, and what it is cut into with other bytes behind it.
-use Rattle.std.specs.Prelude.{◌≡◌, ◌<◌, ◌+◌, ℕ, zero, suc, Bool, true, false, List, [], ◌∷◌, ◌++◌, length, map, count_by, Option, None}
+use Rattle.std.specs.Prelude.{◌≡◌, ◌<◌, ◌+◌, ℕ, zero, suc, Bool, true, false, if◌then◌else◌, List, [], ◌∷◌, ◌++◌, length, map, count_by, Option, None}
 use Rattle.starlark_lexer.specs.Items.{Lexeme, newline, comment, indent, dedent, keyword_pass, dedents, is_opening, is_closing, Item, item, Stop, Lexed, nothing, with_items, opening_item, closing_item}
 use Rattle.starlark_lexer.specs.Lex.{Lex, start}
-use Rattle.starlark_lexer.specs.Joining.{is_indent, dedent_item, outside}
+use Rattle.starlark_lexer.specs.Joining.{is_comment, is_indent, dedent_item, outside}
 
 -- what stands within a line: no line end, no comment and no layout
 abbrev pub inner : Lexeme → Bool
@@ -95,3 +95,19 @@ pub record IsEnded (u v : List ℕ) (before : List Item) (z : Item) (behind : Li
   pub count : ℕ
   pub layout : count_by indent_item (before ++ z ∷ []) ≡ count_by dedent_item (before ++ z ∷ []) + count
   pub rest : behind ≡ dedents (length u) count
+
+-- the lexemes of items, comments left out
+abbrev pub tokens_of : List Item → List Lexeme
+tokens_of [] = []
+tokens_of (x ∷ xs) = if is_comment x.lexeme then tokens_of xs else x.lexeme ∷ tokens_of xs
+
+-- The text with some bytes behind it is cut into tokens that are those of the front, the last of which is a line end that the text has.
+pub record IsContinued (u : List ℕ) (front : List Item) : Type 0 where
+  pub more : List ℕ
+  pub before : List Item
+  pub z : Item
+  pub behind : List Item
+  pub cut : IsCutAt (u ++ more) [] before z behind
+  pub line_end : z.lexeme ≡ newline
+  pub real : z.end ≡ z.begin + 1
+  pub same : tokens_of (before ++ z ∷ []) ≡ tokens_of front

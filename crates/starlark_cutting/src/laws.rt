@@ -4,7 +4,7 @@ ghost use Rattle.std.specs.Prelude.{◌++◌, ◌+◌, ◌<◌, ◌∷◌, ◌�
 ghost use Rattle.starlark_lexer.specs.Items.{Item, dedent, indent, item, newline, nothing, with_items};
 ghost use Rattle.starlark_lexer.specs.Joining.{open_behind};
 ghost use Rattle.starlark_lexer.specs.Lex.{Lex, start};
-ghost use Rattle.starlark_cutting.specs.Cutting.{EvenWith, IsClosedBefore, IsClosedOff, IsCutAt, IsDeepened, IsEnded, IsFilled, IsFinished, IsIndented, inner};
+ghost use Rattle.starlark_cutting.specs.Cutting.{EvenWith, IsClosedBefore, IsClosedOff, IsContinued, IsCutAt, IsDeepened, IsEnded, IsFilled, IsFinished, IsIndented, inner};
 ghost use Rattle.starlark_cutting.specs.Spelling.{Plain, lexemes_of, spellings};
 
 /// A text that is cut off behind a lexeme within a line, outside all f-strings, is cut into the same
@@ -46,4 +46,10 @@ pub fn cut_off_whole()
 /// A line end is one byte wide, or has no width.
 pub fn cut_off_kinds()
     ensures newline_width { (u v : List ℕ) (before : List Item) (z : Item) (behind : List Item) → IsCutAt u v before z behind → z.lexeme ≡ newline → (z.end ≡ z.begin) ⊎ (z.end ≡ z.begin + 1) }
+{}
+
+/// A text that is cut off behind its end, where no f-string and no bracket is open, is cut into the
+/// same tokens with some bytes behind it, where a line end stands in place of its end.
+pub fn cut_off_ends()
+    ensures newline { (u v : List ℕ) (before : List Item) (z : Item) (behind : List Item) → IsCutAt u v before z behind → z.lexeme ≡ newline → z.end ≡ z.begin → open_behind 0 (before ++ z ∷ []) ≡ 0 → EvenWith (before ++ z ∷ []) [] → IsContinued u (before ++ z ∷ []) }
 {}
