@@ -1,20 +1,18 @@
 -- A text with a blank or a line feed in it is in no class of lexemes.
-use Rattle.std.proofs.Common.{◌≡◌, ◌<◌, ◌≤◌, ◌⊎◌, ℕ, Bool, true, false, not, ◌&&◌, ◌||◌, List, [], ◌∷◌, length, take, drop, get_or, refl, ap, sym, ◌∙◌, arith, inl, inr, eqb, ltb, one-add}
+use Rattle.std.proofs.Common.{◌≡◌, ◌<◌, ◌≤◌, ◌⊎◌, ℕ, Bool, true, false, not, ◌&&◌, ◌||◌, List, [], ◌∷◌, length, take, drop, get_or, refl, ap, sym, ◌∙◌, arith, inl, inr, eqb, ltb}
 use Rattle.std.specs.Prelude.{Option, Some, None}
 use Rattle.std.proofs.lemmas.Bool.{cases_Bool, false≢true}
 use Rattle.std.proofs.lemmas.Bool.Decides.{nat_tests}
 use Rattle.std.proofs.lemmas.List.{take-append-drop}
 use Rattle.std.proofs.lemmas.List.Folds.{list_all_at, list_all-append}
-use Rattle.std.proofs.lemmas.Slice.Eq.{bytes_eq-Decides}
 use Rattle.std.specs.List.{list_all}
-use Rattle.std.specs.Str.{bytes_eq}
-use Rattle.std.specs.Char.{is_digit, is_ascii_digit}
-use Rattle.starlark_lexer.specs.declared.words.Operator.{Operator}
+use Rattle.std.specs.Char.{is_digit}
 use Rattle.starlark_lexer.specs.declared.literal.Form.{Form}
 use Rattle.starlark_lexer.specs.declared.literal.Sort.{Sort}
 use Rattle.starlark_lexer.specs.declared.token.FStringQuote.{FStringQuote}
 use Rattle.starlark_lexer.specs.Literals.{opening_of, opened, prefix_of, quote_of, letters}
-use Rattle.starlark_lexer.specs.Classes.{meaning, is_word, is_word_byte, begins_word, is_digits, is_zeros, is_based, radix_of, is_digits_of, is_radix_digits, is_signed, is_exponent, ends_float, is_fraction, begins_number, is_float, behind_digits, operators, operator_of, lookup, is_other, is_continuation, is_nil, is_blank}
+use Rattle.starlark_cutting.proofs.KeptNumbers.{joint, not_true, no_row, row_not, run_passes, word_passes, digits_pass, zeros_pass, based_passes, float_passes}
+use Rattle.starlark_lexer.specs.Classes.{meaning, is_word, is_word_byte, is_digits, is_zeros, is_based, is_float, operators, operator_of, is_other, is_continuation, is_nil, is_blank}
 
 -- neither a blank nor a line feed
 abbrev pub clean : ℕ → Bool
@@ -48,130 +46,23 @@ failing p h j k l b t = elim (cases_Bool (clean b)) [
 abbrev all_clean : List ℕ → Bool
 all_clean w = list_all clean w
 
-both : (a b : Bool) → (a && b) ≡ true → (a ≡ true) × (b ≡ true)
-both true b h = (refl, h)
-both false b h = absurd (false≢true h)
-
-joint : (a b : Bool) → a ≡ true → b ≡ true → (a && b) ≡ true
-joint a b h k = rw (h, k) refl
-
-either : (a b c : Bool) → (a ≡ true → c ≡ true) → (b ≡ true → c ≡ true) → (a || b) ≡ true → c ≡ true
-either true b c h k e = h refl
-either false b c h k e = k e
-
-not_true : (a b : Bool) → (a ≡ true → b ≡ true) → b ≡ false → a ≡ false
-not_true true b h e = absurd (false≢true (sym e ∙ h refl))
-not_true false b h e = refl
-
-run_clean : (p : ℕ → Bool) → ((b : ℕ) → p b ≡ true → clean b ≡ true) → (xs : List ℕ) → list_all p xs ≡ true → all_clean xs ≡ true
-run_clean p each [] h = refl
-run_clean p each (x ∷ xs) h = let k = both (p x) (list_all p xs) h in joint (clean x) (all_clean xs) (each x k.0) (run_clean p each xs k.1)
-
 parts_clean : (n : ℕ) (w : List ℕ) → all_clean (take n w) ≡ true → all_clean (drop n w) ≡ true → all_clean w ≡ true
 parts_clean n w h k = ap all_clean (sym (take-append-drop n w)) ∙ list_all-append clean (take n w) (drop n w) ∙ joint (all_clean (take n w)) (all_clean (drop n w)) h k
 
 -- ---- words and numbers
 
-word_clean : (w : List ℕ) → is_word w ≡ true → all_clean w ≡ true
-word_clean [] h = absurd (false≢true h)
-word_clean (b ∷ bs) h =
-    let k = both (begins_word b) (list_all is_word_byte bs) h in
-    joint (clean b) (all_clean bs) (first b k.0) (run_clean is_word_byte more bs k.1)
-  where
-    first : (b : ℕ) → begins_word b ≡ true → clean b ≡ true
-    first b h = grind (arith, nat_tests)
+word_clean : (b : ℕ) → is_word_byte b ≡ true → clean b ≡ true
+word_clean b h = grind (arith, nat_tests)
 
-    more : (b : ℕ) → is_word_byte b ≡ true → clean b ≡ true
-    more b h = grind (arith, nat_tests)
-
-digit_clean : (b : ℕ) → is_ascii_digit b ≡ true → clean b ≡ true
-digit_clean b h = grind (arith, nat_tests)
-
-digits_clean : (w : List ℕ) → is_digits w ≡ true → all_clean w ≡ true
-digits_clean [] h = absurd (false≢true h)
-digits_clean (b ∷ bs) h = let k = both (is_ascii_digit b) (list_all is_ascii_digit bs) h in joint (clean b) (all_clean bs) (digit_clean b k.0) (run_clean is_ascii_digit digit_clean bs k.1)
-
-zeros_clean : (w : List ℕ) → is_zeros w ≡ true → all_clean w ≡ true
-zeros_clean [] h = absurd (false≢true h)
-zeros_clean (b ∷ bs) h = let k = both (eqb b 48) (is_digits bs) h in joint (clean b) (all_clean bs) (first b k.0) (digits_clean bs k.1)
-  where
-    first : (b : ℕ) → eqb b 48 ≡ true → clean b ≡ true
-    first b h = grind (arith, nat_tests)
-
-radix_most : (b : ℕ) → radix_of b ≤ 16
-radix_most b =
-    elim (cases_Bool (eqb b 120 || eqb b 88)) [
-      | inl e ↦ rw e (omega arith)
-      | inr e ↦ rw e (elim (cases_Bool (eqb b 111 || eqb b 79)) [
-        | inl f ↦ rw f (omega arith)
-        | inr f ↦ rw f (elim (cases_Bool (eqb b 98 || eqb b 66)) [ inl g ↦ rw g (omega arith) | inr g ↦ rw g (omega arith) ])
-      ])
-    ]
+sign_clean : (b : ℕ) → (eqb b 43 || (eqb b 45 || eqb b 46)) ≡ true → clean b ≡ true
+sign_clean b h = grind (arith, nat_tests)
 
 -- no radix has one of them for a digit
-of_radix : (r b : ℕ) → r ≤ 16 → is_digit b r ≡ true → clean b ≡ true
-of_radix r b le h = failing (λ c. is_digit c r) (none r le) (none r le) (none r le) (none r le) b h
+radix_clean : (r b : ℕ) → r ≤ 16 → is_digit b r ≡ true → clean b ≡ true
+radix_clean r b le h = failing (λ c. is_digit c r) (none r le) (none r le) (none r le) (none r le) b h
   where
     none : (r : ℕ) → r ≤ 16 → ltb 36 r ≡ false
     none r le = grind (arith, nat_tests)
-
-letter_clean : (b : ℕ) → ltb 0 (radix_of b) ≡ true → clean b ≡ true
-letter_clean b h = failing (λ c. ltb 0 (radix_of c)) refl refl refl refl b h
-
-of_clean : (r : ℕ) (w : List ℕ) → r ≤ 16 → is_digits_of r w ≡ true → all_clean w ≡ true
-of_clean r [] le h = absurd (false≢true h)
-of_clean r (b ∷ bs) le h = let k = both (is_digit b r) (list_all (λ c. is_digit c r) bs) h in joint (clean b) (all_clean bs) (of_radix r b le k.0) (run_clean (λ c. is_digit c r) (λ c. of_radix r c le) bs k.1)
-
-based_clean : (w : List ℕ) → is_based w ≡ true → all_clean w ≡ true
-based_clean [] h = absurd (false≢true h)
-based_clean (b ∷ []) h = absurd (false≢true (both (eqb b 48) false h).1)
-based_clean (b ∷ c ∷ bs) h =
-    let k = both (eqb b 48) (is_radix_digits (c ∷ bs)) h in
-    let l = both (ltb 0 (radix_of c)) (is_digits_of (radix_of c) bs) k.1 in
-    joint (clean b) (all_clean (c ∷ bs)) (first b k.0) (joint (clean c) (all_clean bs) (letter_clean c l.0) (of_clean (radix_of c) bs (radix_most c) l.1))
-  where
-    first : (b : ℕ) → eqb b 48 ≡ true → clean b ≡ true
-    first b h = grind (arith, nat_tests)
-
-signed_clean : (w : List ℕ) → is_signed w ≡ true → all_clean w ≡ true
-signed_clean [] h = absurd (false≢true h)
-signed_clean (b ∷ bs) h = let k = both (eqb b 43 || eqb b 45) (is_digits bs) h in joint (clean b) (all_clean bs) (first b k.0) (digits_clean bs k.1)
-  where
-    first : (b : ℕ) → (eqb b 43 || eqb b 45) ≡ true → clean b ≡ true
-    first b h = grind (arith, nat_tests)
-
-exponent_clean : (w : List ℕ) → is_exponent w ≡ true → all_clean w ≡ true
-exponent_clean [] h = absurd (false≢true h)
-exponent_clean (b ∷ bs) h =
-    let k = both (eqb b 101 || eqb b 69) (is_digits bs || is_signed bs) h in
-    joint (clean b) (all_clean bs) (first b k.0) (either (is_digits bs) (is_signed bs) (all_clean bs) (digits_clean bs) (signed_clean bs) k.1)
-  where
-    first : (b : ℕ) → (eqb b 101 || eqb b 69) ≡ true → clean b ≡ true
-    first b h = grind (arith, nat_tests)
-
--- digits at the front have none
-behind_clean : (w : List ℕ) → all_clean (behind_digits w) ≡ true → all_clean w ≡ true
-behind_clean [] h = refl
-behind_clean (b ∷ bs) h = elim (cases_Bool (is_ascii_digit b)) [
-  | inl t ↦ joint (clean b) (all_clean bs) (digit_clean b t) (behind_clean bs (rw (t, one-add) at h))
-  | inr t ↦ rw t at h
-]
-
-ends_clean : (w : List ℕ) → ends_float w ≡ true → all_clean w ≡ true
-ends_clean [] h = refl
-ends_clean (b ∷ bs) h = exponent_clean (b ∷ bs) h
-
-fraction_clean : (w : List ℕ) → is_fraction w ≡ true → all_clean w ≡ true
-fraction_clean [] h = absurd (false≢true h)
-fraction_clean (b ∷ bs) h = let k = both (eqb b 46) (ends_float (behind_digits bs)) h in joint (clean b) (all_clean bs) (first b k.0) (behind_clean bs (ends_clean (behind_digits bs) k.1))
-  where
-    first : (b : ℕ) → eqb b 46 ≡ true → clean b ≡ true
-    first b h = grind (arith, nat_tests)
-
-float_clean : (w : List ℕ) → is_float w ≡ true → all_clean w ≡ true
-float_clean w h =
-    let k = both (begins_number w) (is_fraction (behind_digits w) || is_exponent (behind_digits w)) h in
-    behind_clean w (either (is_fraction (behind_digits w)) (is_exponent (behind_digits w)) (all_clean (behind_digits w)) (fraction_clean (behind_digits w)) (exponent_clean (behind_digits w)) k.1)
 
 -- ---- prefixes and quotes
 
@@ -242,23 +133,9 @@ no_opening w (Some f) h e = absurd (false≢true (sym h ∙ opening_clean w f e)
 
 -- ---- operators and the rest
 
-abbrev Row : Type 0
-Row = List ℕ × Operator
-
-abbrev rows_clean : List Row → Bool
-rows_clean [] = true
-rows_clean (r ∷ rs) = all_clean r.0 && rows_clean rs
-
-row_not : (r w : List ℕ) → all_clean r ≡ true → all_clean w ≡ false → bytes_eq r w ≡ false
-row_not r w h e = elim (cases_Bool (bytes_eq r w)) [ inr n ↦ n | inl y ↦ absurd (false≢true (sym e ∙ sym (ap all_clean ((bytes_eq-Decides r w).0 y)) ∙ h)) ]
-
-rows_not : (rs : List Row) (w : List ℕ) → rows_clean rs ≡ true → all_clean w ≡ false → lookup rs w ≡ None
-rows_not [] w h e = refl
-rows_not (r ∷ rs) w h e = let k = both (all_clean r.0) (rows_clean rs) h in let n = row_not r.0 w k.0 e in rw n (rows_not rs w k.1 e)
-
 no_operator : (w : List ℕ) → all_clean w ≡ false → operator_of w ≡ None
 unfolding operator_of
-no_operator w e = rows_not operators w refl e
+no_operator w e = no_row all_clean w (λ r. row_not clean w r e) operators refl
 
 high_clean : (b : ℕ) → ltb b 128 ≡ false → clean b ≡ true
 high_clean b h = grind (arith, nat_tests)
@@ -277,7 +154,7 @@ other_clean : (w : List ℕ) → is_other w ≡ true → all_clean w ≡ true
 other_clean [] h = refl
 other_clean (b ∷ bs) h = elim (cases_Bool (ltb b 128)) [
   | inl a ↦ low_clean b bs (rw a at h)
-  | inr a ↦ joint (clean b) (all_clean bs) (high_clean b a) (run_clean is_continuation goes_clean bs (rw a at h))
+  | inr a ↦ joint (clean b) (all_clean bs) (high_clean b a) (run_passes clean is_continuation goes_clean bs (rw a at h))
 ]
 
 -- ---- all classes
@@ -285,11 +162,11 @@ other_clean (b ∷ bs) h = elim (cases_Bool (ltb b 128)) [
 unclean_none : (w : List ℕ) → all_clean w ≡ false → meaning w ≡ None
 unfolding meaning
 unclean_none w h =
-    let a = not_true (is_word w) (all_clean w) (word_clean w) h in
-    let b = not_true (is_digits w) (all_clean w) (digits_clean w) h in
-    let c = not_true (is_based w) (all_clean w) (based_clean w) h in
-    let d = not_true (is_zeros w) (all_clean w) (zeros_clean w) h in
-    let e = not_true (is_float w) (all_clean w) (float_clean w) h in
+    let a = not_true (is_word w) (all_clean w) (word_passes clean word_clean sign_clean radix_clean w) h in
+    let b = not_true (is_digits w) (all_clean w) (digits_pass clean word_clean sign_clean radix_clean w) h in
+    let c = not_true (is_based w) (all_clean w) (based_passes clean word_clean sign_clean radix_clean w) h in
+    let d = not_true (is_zeros w) (all_clean w) (zeros_pass clean word_clean sign_clean radix_clean w) h in
+    let e = not_true (is_float w) (all_clean w) (float_passes clean word_clean sign_clean radix_clean w) h in
     let f = no_opening w (opening_of w) h refl in
     let g = no_operator w h in
     let i = not_true (is_other w) (all_clean w) (other_clean w) h in

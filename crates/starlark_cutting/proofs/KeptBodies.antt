@@ -90,19 +90,19 @@ taken_same p (suc m) (b ∷ bs) v s h = elim (cases_Bool (p b)) [
 
 -- ---- escapes
 
-abbrev Alike : ℕ → Piece → Piece → Type 0
+abbrev pub Alike : ℕ → Piece → Piece → Type 0
 Alike m p q = Within m p → q ≡ p
 
 -- both choose by the same test
-choose : (m : ℕ) (t : Bool) (p q u w : Piece) → (t ≡ true → Alike m p u) → (t ≡ false → Alike m q w) → Alike m (cond t p q) (cond t u w)
+pub choose : (m : ℕ) (t : Bool) (p q u w : Piece) → (t ≡ true → Alike m p u) → (t ≡ false → Alike m q w) → Alike m (cond t p q) (cond t u w)
 choose m true p q u w h k = h refl
 choose m false p q u w h k = k refl
 
-escaped_same : (s : Sort) (x n m : ℕ) (r o : List ℕ) → Alike m (escaped s x n r) (escaped s x n o)
+pub escaped_same : (s : Sort) (x n m : ℕ) (r o : List ℕ) → Alike m (escaped s x n r) (escaped s x n o)
 escaped_same s x n m r o = choose m (is_bytes s) _ _ _ _ (λ _. choose m (ltb x 256) _ _ _ _ (λ _ w. refl) (λ _ w. absurd w)) (λ _. choose m (is_scalar x) _ _ _ _ (λ _ w. refl) (λ _ w. absurd w))
 
 -- an escape of n bytes
-escaped_len : (s : Sort) (x n m : ℕ) (r : List ℕ) → Within m (escaped s x n r) → n ≤ m
+pub escaped_len : (s : Sort) (x n m : ℕ) (r : List ℕ) → Within m (escaped s x n r) → n ≤ m
 escaped_len s x n m r =
     len (is_bytes s) (cond (ltb x 256) (Byte x n) (no_escape r)) (cond (is_scalar x) (Char x n) (no_escape r))
     (len (ltb x 256) (Byte x n) (no_escape r) (λ w. w) (λ w. absurd w)) (len (is_scalar x) (Char x n) (no_escape r) (λ w. w) (λ w. absurd w))

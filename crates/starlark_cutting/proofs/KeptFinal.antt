@@ -27,7 +27,7 @@ one_inner [] = false
 one_inner (x ∷ []) = inner x.lexeme
 one_inner (x ∷ y ∷ xs) = false
 
-dedents_not : (i n : ℕ) → one_inner (dedents i n) ≡ false
+pub dedents_not : (i n : ℕ) → one_inner (dedents i n) ≡ false
 dedents_not i zero = refl
 dedents_not i (suc zero) = refl
 dedents_not i (suc (suc n)) = refl
@@ -48,7 +48,7 @@ field_code b g bs e = cc
 none_some : (o : Option Meaning) (m : Meaning) → o ≡ None → o ≡ Some m → ⊥
 none_some o m h k = cc
 
-lexeme_cr : (u v : List ℕ) (n : ℕ) (m : Meaning) → IsLexeme (u ++ v) n m → n ≡ length u → u ≡ 13 ∷ [] → ⊥
+pub lexeme_cr : (u v : List ℕ) (n : ℕ) (m : Meaning) → IsLexeme (u ++ v) n m → n ≡ length u → u ≡ 13 ∷ [] → ⊥
 lexeme_cr u v n m l e is =
     let one : n ≡ 1 = omega (arith, e, ap length is) in
     let w : take n (u ++ v) ≡ 13 ∷ [] = (λ i. take (one i) (is i ++ v)) in
@@ -70,11 +70,11 @@ cr_piece : (g : Form) (v : List ℕ) → piece g (13 ∷ v) ≡ Nothing 1
 unfolding piece
 cr_piece g v = let m = cr_mark g.quote in rw m refl
 
-body_cr : (g : Form) (v : List ℕ) → body g 0 (13 ∷ v) ≡ ending.Closed 0 → ⊥
+pub body_cr : (g : Form) (v : List ℕ) → body g 0 (13 ∷ v) ≡ ending.Closed 0 → ⊥
 unfolding read
 body_cr g v e = later_not (read g 0 v).ending (ap (λ p. (by_piece p (13 ∷ v) (λ k. read g (k - 1) v)).ending) (sym (cr_piece g v)) ∙ e)
 
-quotes_some : (q : FStringQuote) → 0 < quotes q
+pub quotes_some : (q : FStringQuote) → 0 < quotes q
 quotes_some Single = omega arith
 quotes_some Double = omega arith
 quotes_some TripleSingle = omega arith
@@ -87,7 +87,7 @@ pub record Stepped (p : Past) (xs : List Item) (q : Past) (u v : List ℕ) : Typ
   pub step : (o : List ℕ) → Stops o → Step p (u ++ o) (on xs q o)
   pub fresh : q.fresh ≡ false
 
-behind_all : (p : Past) (xs : List Item) (q : Past) (u o : List ℕ) (k : ℕ) → k ≡ length u → Step p (u ++ o) (on xs q (drop k (u ++ o))) → Step p (u ++ o) (on xs q o)
+pub behind_all : (p : Past) (xs : List Item) (q : Past) (u o : List ℕ) (k : ℕ) → k ≡ length u → Step p (u ++ o) (on xs q (drop k (u ++ o))) → Step p (u ++ o) (on xs q o)
 behind_all p xs q u o k e step =
     let all : drop k (u ++ o) ≡ o = drop-append-le k u o (omega (arith, e)) ∙ ap (λ w. w ++ o) (drop_all k u (omega (arith, e))) in
     subst (λ w. Step p (u ++ o) (on xs q w)) all step

@@ -53,7 +53,7 @@ mark_none Double = (refl, refl, refl, refl)
 mark_none TripleSingle = (refl, refl, refl, refl)
 mark_none TripleDouble = (refl, refl, refl, refl)
 
-and_false : (t : Bool) → (t && false) ≡ false
+pub and_false : (t : Bool) → (t && false) ≡ false
 and_false true = refl
 and_false false = refl
 
@@ -63,7 +63,7 @@ mark_self Double = refl
 mark_self TripleSingle = refl
 mark_self TripleDouble = refl
 
-mark_piece : (f : Form) (bs : List ℕ) → piece f (mark f.quote ∷ bs) ≡ cond (goes_on f.quote bs) Closing (Same 1)
+pub mark_piece : (f : Form) (bs : List ℕ) → piece f (mark f.quote ∷ bs) ≡ cond (goes_on f.quote bs) Closing (Same 1)
 unfolding piece
 mark_piece f bs =
     let n = mark_none f.quote in
@@ -76,22 +76,22 @@ mark_piece f bs =
     (cond (y i) (brace (mark f.quote) bs) (Same 1))))))
 
 -- a byte that is no mark
-abbrev inner : Form → ℕ → List ℕ → Piece
+abbrev pub inner : Form → ℕ → List ℕ → Piece
 inner f b bs =
     cond (eqb b 13) (Nothing 1)
     (cond (eqb b 10) (cond (is_triple f.quote) (Same 1) Stop)
     (cond (eqb b 92) (cond f.raw (raw_escape f.sort bs) (escape f.sort bs))
     (cond (is_format f.sort && (eqb b 123 || eqb b 125)) (brace b bs) (Same 1))))
 
-inner_piece : (f : Form) (b : ℕ) (bs : List ℕ) → eqb b (mark f.quote) ≡ false → piece f (b ∷ bs) ≡ inner f b bs
+pub inner_piece : (f : Form) (b : ℕ) (bs : List ℕ) → eqb b (mark f.quote) ≡ false → piece f (b ∷ bs) ≡ inner f b bs
 unfolding piece
 inner_piece f b bs e = λ i. cond (e i && goes_on f.quote bs) Closing (inner f b bs)
 
-choose : (S : Piece → Type 0) (t : Bool) (p q u w : Piece) → (S p → u ≡ p) → (S q → w ≡ q) → S (cond t p q) → cond t u w ≡ cond t p q
+pub choose : (S : Piece → Type 0) (t : Bool) (p q u w : Piece) → (S p → u ≡ p) → (S q → w ≡ q) → S (cond t p q) → cond t u w ≡ cond t p q
 choose S true p q u w h k = h
 choose S false p q u w h k = k
 
-inner_same : (f : Form) (b : ℕ) (xs v o : List ℕ) → Within (length xs) (inner f b (xs ++ v)) → inner f b (xs ++ o) ≡ inner f b (xs ++ v)
+pub inner_same : (f : Form) (b : ℕ) (xs v o : List ℕ) → Within (length xs) (inner f b (xs ++ v)) → inner f b (xs ++ o) ≡ inner f b (xs ++ v)
 inner_same f b xs v o =
     let S = Within (length xs) in
     choose S (eqb b 13) _ _ _ _ (λ _. refl)
@@ -99,7 +99,7 @@ inner_same f b xs v o =
     (choose S (eqb b 92) _ _ _ _ (choose S f.raw _ _ _ _ (raw_same f.sort xs v o) (escape_same f.sort xs v o))
     (choose S (is_format f.sort && (eqb b 123 || eqb b 125)) _ _ _ _ (brace_same b xs v o) (λ _. refl))))
 
-inner_some : (f : Form) (b : ℕ) (bs : List ℕ) → Some_bytes (inner f b bs)
+pub inner_some : (f : Form) (b : ℕ) (bs : List ℕ) → Some_bytes (inner f b bs)
 inner_some f b bs =
     pick Some_bytes (eqb b 13) _ _ (omega arith)
     (pick Some_bytes (eqb b 10) _ _ (pick Some_bytes (is_triple f.quote) _ _ (omega arith) tt)

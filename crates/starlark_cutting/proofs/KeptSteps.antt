@@ -51,7 +51,7 @@ remark_kept p rest more u v o f e is le lt =
 
 -- ---- comments behind lexemes
 
-inline_kept : (p : Past) (rest w v o : List ℕ) → p.fresh ≡ false → is_inside p.mode ≡ false → rest ≡ w ++ v → line_len rest ≤ length w → Holds (drop (line_len rest) w)
+pub inline_kept : (p : Past) (rest w v o : List ℕ) → p.fresh ≡ false → is_inside p.mode ≡ false → rest ≡ w ++ v → line_len rest ≤ length w → Holds (drop (line_len rest) w)
     → Step p (35 ∷ w ++ o) (gives p 0 (comment (take (line_len rest) rest)) (1 + line_len rest) (1 + line_len rest) false (35 ∷ w ++ o))
 inline_kept p rest w v o f c is le h =
     let n = line_len rest in

@@ -38,7 +38,7 @@ pub string_body : (o : List ℕ) → body text_form 0 (34 ∷ o) ≡ ending.Clos
 unfolding read piece
 string_body o = refl
 
-string_value : value text_form [] ≡ []
+pub string_value : value text_form [] ≡ []
 unfolding read
 string_value = refl
 

@@ -19,7 +19,7 @@ named_count f [] = refl
 named_count f (x ∷ xs) = sum_by-cons (λ y. cond (f y.lexeme) 1 0) x xs ∙ ap (λ n. cond (f x.lexeme) 1 0 + n) (named_count f xs) ∙ sym (sum_by-cons (λ y. cond (f y) 1 0) x.lexeme (map (λ y. y.lexeme) xs))
 
 -- without the sums of nothing
-plainly : (u s : List ℕ) (front put : List Item) (n k : ℕ)
+pub plainly : (u s : List ℕ) (front put : List Item) (n k : ℕ)
     → Lex start (u ++ (s ++ 10 ∷ [])) (with_items front (with_items put (with_items (item (n + 0) newline (n + 0 + 1) ∷ []) (with_items (item (n + 1 + 0) newline (n + 1 + 0) ∷ dedents (n + 1 + 0) k) nothing))))
     → Lex start (u ++ (s ++ 10 ∷ [])) (with_items front (with_items put (with_items (item n newline (n + 1) ∷ []) (with_items (item (n + 1) newline (n + 1) ∷ dedents (n + 1) k) nothing))))
 plainly u s front put n k h =

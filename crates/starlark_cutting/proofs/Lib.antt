@@ -1,3 +1,4 @@
+mod KeptNumbers
 mod Clean
 mod KeptBodies
 mod KeptReads
@@ -29,3 +30,13 @@ mod KeptContinued
 mod KeptTail
 mod KeptLast
 mod KeptClosing
+mod KeptMarks
+mod KeptTails
+mod KeptOpen
+mod KeptOrdinary
+mod KeptLinked
+mod KeptBraces
+mod KeptOnce
+mod KeptWay
+mod KeptEnding
+mod KeptFields
