@@ -1,5 +1,5 @@
 -- Each token opens and closes what it tells, in each state of the machine.
-use Rattle.std.proofs.Common.{ℕ, ◌≡◌, ◌∷◌, [], suc, List, Option, Some, nat_eq, cond, refl, ap, sym, subst}
+use Rattle.std.proofs.Common.{ℕ, ◌≡◌, suc, Option, Some, nat_eq, cond, refl, ap, sym, subst}
 use Rattle.starlark_lexer.specs.Items.{Lexeme, newline, indent, dedent, identifier, string, keyword_break, keyword_continue, keyword_def, keyword_elif, keyword_else, keyword_for, keyword_if, keyword_load, keyword_pass, keyword_return, comma, semicolon, colon, equal, star, star_star, slash, minus_greater, opening_round, closing_round}
 use Rattle.starlark_ast.specs.Tree as tree
 use Rattle.starlark_ast.specs.Tree.{Members, Stars, Name, Symbol, Symbols, Annotation, Statement, Sequence, add_statement, no_statements, plain, return, when}
@@ -10,19 +10,20 @@ use Rattle.starlark_grammar.specs.Tables.{level_of}
 use Rattle.starlark_grammar.specs.Points.{behind, an_argument, a_named, member, turn, opens}
 use Rattle.starlark_grammar.specs.Frames.{Blocks, outer, inner, at_block, at_suite, Line, line, first, returned, kind_listed, inside, listed, spot, State, wants, has, stands, perhaps_named, wants_list, wants_next, at_line, behind_for, behind_if, wants_colon, wants_suite, wants_indent, behind_small, wants_small, behind_return, load_opens, load_module, load_named, load_symbol, load_equal, load_other, load_behind, def_name, def_opens, wants_param, behind_star, behind_stars, behind_name, behind_param, wants_result}
 use Rattle.starlark_grammar.specs.Machine.{settled, tails, goes, begin_small, begin_line, feed, opened, else_state, perhaps, end_symbol, move}
-use Rattle.starlark_completion.specs.Shapes.{Open, a_bracket, at_point, in_frames, block_depth, if_depth, line_depth, frames_depth, depth, shape}
+use Rattle.starlark_cutting.specs.Opened.{Nest, outside, deeper}
+use Rattle.starlark_completion.specs.Shapes.{at_point, in_frames, block_depth, if_depth, line_depth, frames_depth, depth, nest}
 use Rattle.starlark_completion.specs.Moves.{Moves}
 use Rattle.starlark_completion.proofs.MovingPoints.{turn_moves}
-use Rattle.starlark_completion.proofs.MovingFrames.{with_moves, settled_depth, close_shape, close_depth, close_stage, row_moves, small_moves, param_moves, default_moves}
+use Rattle.starlark_completion.proofs.MovingFrames.{with_moves, settled_depth, close_nest, close_depth, close_stage, row_moves, small_moves, param_moves, default_moves}
 use Rattle.starlark_completion.proofs.MovingSpots.{feed_moves, opened_moves, perhaps_moves, else_moves}
 
 -- at `=`, and at others
-equal_moves : (r : List Open) (d : ℕ) (x : Lexeme) (a c : Option State) → Moves r d equal a → Moves r d x c → Moves r d x (cond (nat_eq (sort equal) (sort x)) a c)
+equal_moves : (r : Nest) (d : ℕ) (x : Lexeme) (a c : Option State) → Moves r d equal a → Moves r d x c → Moves r d x (cond (nat_eq (sort equal) (sort x)) a c)
 equal_moves r d equal a c g h = g
 equal_moves r d _ a c g h = h
 
 -- a small statement begins
-begin_small_moves : (k : Line) (x : Lexeme) (i j : ℕ) → Moves [] (line_depth k) x (begin_small k x i j)
+begin_small_moves : (k : Line) (x : Lexeme) (i j : ℕ) → Moves (outside 0) (line_depth k) x (begin_small k x i j)
 begin_small_moves k keyword_return i j = (refl, refl, refl)
 begin_small_moves k keyword_break i j = (refl, refl, refl)
 begin_small_moves k keyword_continue i j = (refl, refl, refl)
@@ -31,7 +32,7 @@ begin_small_moves k keyword_load i j = (refl, refl, refl)
 begin_small_moves k x i j = with_moves x 12 i j (spot (first i k))
 
 -- a line does
-begin_line_moves : (k : Blocks) (e : ℕ) (x : Lexeme) (i j : ℕ) → Moves [] (block_depth k) x (begin_line k e x i j)
+begin_line_moves : (k : Blocks) (e : ℕ) (x : Lexeme) (i j : ℕ) → Moves (outside 0) (block_depth k) x (begin_line k e x i j)
 begin_line_moves (outer ss) e newline i j = (refl, refl, refl)
 begin_line_moves (inner no_statements k) e newline i j = (refl, refl, refl)
 begin_line_moves (inner (add_statement ss s) k) e newline i j = (refl, refl, refl)
@@ -40,23 +41,23 @@ begin_line_moves k e keyword_for i j = (refl, refl, refl)
 begin_line_moves k e keyword_def i j = (refl, refl, refl)
 begin_line_moves (outer ss) e dedent i j = tt
 begin_line_moves (inner no_statements k) e dedent i j = tt
-begin_line_moves (inner (add_statement ss s) k) e dedent i j = (close_shape k _ j, ap suc (sym (close_depth k _ j)), close_stage k _ j)
+begin_line_moves (inner (add_statement ss s) k) e dedent i j = (close_nest k _ j, ap suc (sym (close_depth k _ j)), close_stage k _ j)
 begin_line_moves k e x i j = begin_small_moves (line no_statements (at_block k)) x i j
 
 -- behind an `if`
-line_moves : (k : Blocks) (d e : ℕ) (x : Lexeme) (i j : ℕ) → block_depth k ≡ d → Moves [] d x (begin_line k e x i j)
-line_moves k d e x i j q = subst (λ n. Moves [] n x (begin_line k e x i j)) q (begin_line_moves k e x i j)
+line_moves : (k : Blocks) (d e : ℕ) (x : Lexeme) (i j : ℕ) → block_depth k ≡ d → Moves (outside 0) d x (begin_line k e x i j)
+line_moves k d e x i j q = subst (λ n. Moves (outside 0) n x (begin_line k e x i j)) q (begin_line_moves k e x i j)
 
-symbol_moves : (p : ℕ) (m : Name) (ss : Symbols) (s : Symbol) (k : Line) (x : Lexeme) (i j : ℕ) → Moves (a_bracket ∷ []) (line_depth k) x (end_symbol p m ss s k x i j)
+symbol_moves : (p : ℕ) (m : Name) (ss : Symbols) (s : Symbol) (k : Line) (x : Lexeme) (i j : ℕ) → Moves (outside 1) (line_depth k) x (end_symbol p m ss s k x i j)
 symbol_moves p m ss s k comma i j = (refl, refl, refl)
 symbol_moves p m ss s k closing_round i j = (refl, refl, refl)
 symbol_moves p m ss s k _ i j = tt
 
-pub move_moves : (s : State) (x : Lexeme) (i j : ℕ) → Moves (shape s) (depth s) x (move s x i j)
+pub move_moves : (s : State) (x : Lexeme) (i j : ℕ) → Moves (nest s) (depth s) x (move s x i j)
 move_moves (wants n k) x i j = with_moves x n i j k
 move_moves (has q e k) x i j = feed_moves k q e x i j
 move_moves (stands p k) x i j = else_moves (at_point p (in_frames k)) (frames_depth k) x (goes k (turn p x i j)) (else_state (perhaps p x i j k) (opened (opens p i) x i j k)) (turn_moves p x i j k) (else_moves (at_point p (in_frames k)) (frames_depth k) x (perhaps p x i j k) (opened (opens p i) x i j k) (perhaps_moves p x i j k) (opened_moves p x i j k))
-move_moves (perhaps_named q ms f n g h k) x i j = equal_moves (a_bracket ∷ in_frames k) (frames_depth k) x (Some (wants 12 (inside (member (behind q) ms f g (a_named n (stretch g h))) k))) (feed (tails 13 0 (inside (member (behind q) ms f g an_argument) k)) (leaf_at (tree.name n) (stretch g h)) h x i j) (refl, refl, refl) (feed_moves (tails 13 0 (inside (member (behind q) ms f g an_argument) k)) (leaf_at (tree.name n) (stretch g h)) h x i j)
+move_moves (perhaps_named q ms f n g h k) x i j = equal_moves (deeper (in_frames k)) (frames_depth k) x (Some (wants 12 (inside (member (behind q) ms f g (a_named n (stretch g h))) k))) (feed (tails 13 0 (inside (member (behind q) ms f g an_argument) k)) (leaf_at (tree.name n) (stretch g h)) h x i j) (refl, refl, refl) (feed_moves (tails 13 0 (inside (member (behind q) ms f g an_argument) k)) (leaf_at (tree.name n) (stretch g h)) h x i j)
 move_moves (wants_list k) x i j = with_moves x (level_of (kind_listed k)) i j (listed tree.none i k)
 move_moves (wants_next ms p m k) x i j = with_moves x (level_of (kind_listed k)) i j (listed ms p k)
 move_moves (at_line k e) x i j = begin_line_moves k e x i j

@@ -1,12 +1,13 @@
 -- A token at a point of an expression opens and closes what it tells.
-use Rattle.std.proofs.Common.{ℕ, ◌∷◌, ◌++◌, List, Bool, Option, Some, None, refl}
+use Rattle.std.proofs.Common.{ℕ, ◌++◌, List, Bool, Option, Some, None, refl}
 use Rattle.starlark_lexer.specs.Items.{Lexeme, identifier, fstring_text, fstring_expr_start, fstring_bang, fstring_expr_end, fstring_end, keyword_else, keyword_for, keyword_if, keyword_in, comma, colon, equal, star, star_star, slash, closing_round, closing_square, closing_curly}
 use Rattle.starlark_ast.specs.Tree as tree
 use Rattle.starlark_grammar.specs.Tables.{Bracket, round, square, curly, conversion}
 use Rattle.starlark_grammar.specs.Points.{Place, brackets, behind, before_body, targets_in, Bounds, at_first, at_second, at_third, Point, member_wanted, member_read, key_read, star_read, stars_read, name_read, bound_wanted, bound_read, second_read, attribute_wanted, not_read, condition_read, clauses_read, piece_wanted, field_read, letter_wanted, letter_read, reach, on_some, behind_member, turn}
 use Rattle.starlark_grammar.specs.Frames.{Frames}
 use Rattle.starlark_grammar.specs.Machine.{goes}
-use Rattle.starlark_completion.specs.Shapes.{a_string, in_place, at_point, in_frames, frames_depth}
+use Rattle.starlark_cutting.specs.Opened.{in_field}
+use Rattle.starlark_completion.specs.Shapes.{in_place, at_point, in_frames, frames_depth}
 use Rattle.starlark_completion.specs.Moves.{Moves}
 
 -- behind a member
@@ -94,7 +95,7 @@ clauses_move _ square b m cs i j k = tt
 clauses_move _ curly b m cs i j k = tt
 
 -- the letter behind `!`
-letter_moves : (n : List ℕ) (o : Option (List ℕ)) (b : ℕ) (f : List ℕ → List ℕ) (ms : tree.Members) (k : Frames) → Moves (a_string ∷ in_frames k) (frames_depth k) (identifier n) (goes k (on_some o (λ s. Some (reach (letter_read b (f s) ms))) None))
+letter_moves : (n : List ℕ) (o : Option (List ℕ)) (b : ℕ) (f : List ℕ → List ℕ) (ms : tree.Members) (k : Frames) → Moves (in_field 0 (in_frames k)) (frames_depth k) (identifier n) (goes k (on_some o (λ s. Some (reach (letter_read b (f s) ms))) None))
 letter_moves n None b f ms k = tt
 letter_moves n (Some s) b f ms k = (refl, refl, refl)
 
@@ -124,14 +125,14 @@ turn_moves (not_read l) _ i j k = tt
 turn_moves (condition_read t c) keyword_else i j k = (refl, refl, refl)
 turn_moves (condition_read t c) _ i j k = tt
 turn_moves (clauses_read p b m cs) x i j k = clauses_move x p b m cs i j k
-turn_moves (piece_wanted b f ms) (fstring_text t) i j k = (refl, refl, refl)
-turn_moves (piece_wanted b f ms) fstring_expr_start i j k = (refl, refl, refl)
+turn_moves (piece_wanted b f ms) (fstring_text t) i j k = ((in_frames k, (refl, refl)), refl, refl)
+turn_moves (piece_wanted b f ms) fstring_expr_start i j k = ((in_frames k, (refl, refl)), refl, refl)
 turn_moves (piece_wanted b f ms) fstring_end i j k = (refl, refl, refl)
 turn_moves (piece_wanted b f ms) _ i j k = tt
-turn_moves (field_read b f ms q) fstring_expr_end i j k = (refl, refl, refl)
-turn_moves (field_read b f ms q) fstring_bang i j k = (refl, refl, refl)
+turn_moves (field_read b f ms q) fstring_expr_end i j k = ((in_frames k, (refl, refl)), refl, refl)
+turn_moves (field_read b f ms q) fstring_bang i j k = ((in_frames k, (refl, refl)), refl, refl)
 turn_moves (field_read b f ms q) _ i j k = tt
 turn_moves (letter_wanted b f ms q g h) (identifier n) i j k = letter_moves n (conversion n) b (λ s. f ++ s) (tree.more ms (tree.item q)) k
 turn_moves (letter_wanted b f ms q g h) _ i j k = tt
-turn_moves (letter_read b f ms) fstring_expr_end i j k = (refl, refl, refl)
+turn_moves (letter_read b f ms) fstring_expr_end i j k = ((in_frames k, (refl, refl)), refl, refl)
 turn_moves (letter_read b f ms) _ i j k = tt

@@ -1,5 +1,5 @@
 -- A token behind an expression, and at a point where one may come, opens and closes what it tells.
-use Rattle.std.proofs.Common.{ℕ, [], List, Option, Some, None, refl}
+use Rattle.std.proofs.Common.{ℕ, Option, Some, None, refl}
 use Rattle.starlark_lexer.specs.Items.{Lexeme, newline, identifier, keyword_in, comma, semicolon, colon, equal, plus_equal, minus_equal, star_equal, slash_equal, slash_slash_equal, percent_equal, ampersand_equal, pipe_equal, caret_equal, less_less_equal, greater_greater_equal, closing_round}
 use Rattle.starlark_ast.specs.Tree as tree
 use Rattle.starlark_ast.specs.Tree.{Members, Stars, Name, Symbol, Symbols, Annotation, Statement, Sequence, add_statement, no_statements, return, when}
@@ -7,7 +7,8 @@ use Rattle.starlark_grammar.specs.Tables.{round, square, curly, suffix}
 use Rattle.starlark_grammar.specs.Points.{brackets, behind, before_body, targets_in, member, key, bound, second, operand, behind_sign, condition, otherwise, body, over, filter, field, Point, member_wanted, member_read, key_read, bound_wanted, bound_read, second_read, condition_read, clauses_read, field_read, opens}
 use Rattle.starlark_grammar.specs.Frames.{Spots, first, annotation, test, source, param_type, param_default, result_type, Lists, left, right, returned, target, Frames, tail, inside, listed, spot, State}
 use Rattle.starlark_grammar.specs.Machine.{accept, accept_list, list_of, feed, opened, else_state, perhaps}
-use Rattle.starlark_completion.specs.Shapes.{Open, at_point, in_frames, spot_depth, in_spot, list_depth, frames_depth}
+use Rattle.starlark_cutting.specs.Opened.{Nest, outside}
+use Rattle.starlark_completion.specs.Shapes.{at_point, in_frames, spot_depth, in_spot, list_depth, frames_depth}
 use Rattle.starlark_completion.specs.Moves.{Moves}
 use Rattle.starlark_completion.proofs.MovingPoints.{turn_moves}
 use Rattle.starlark_completion.proofs.MovingFrames.{with_moves, enter_moves, on_moves, small_moves, param_moves, default_moves}
@@ -56,7 +57,7 @@ accept_moves (param_default h ps n t p) q e x j = param_moves h _ x
 accept_moves (result_type h ps) t e colon j = (refl, refl, refl)
 accept_moves (result_type h ps) t e _ j = tt
 
-list_moves : (k : Lists) (l : tree.Expr) (e : ℕ) (x : Lexeme) (j : ℕ) → Moves [] (list_depth k) x (accept_list k l e x j)
+list_moves : (k : Lists) (l : tree.Expr) (e : ℕ) (x : Lexeme) (j : ℕ) → Moves (outside 0) (list_depth k) x (accept_list k l e x j)
 list_moves (left p k) l e colon j = (refl, refl, refl)
 list_moves (left p k) q e equal j = (refl, refl, refl)
 list_moves (left p k) q e plus_equal j = (refl, refl, refl)
@@ -114,6 +115,6 @@ perhaps_moves (member_wanted (before_body b) ms t e f) x i j k = tt
 perhaps_moves (member_wanted (targets_in p b m cs) ms t e f) x i j k = tt
 perhaps_moves _ x i j k = tt
 
-pub else_moves : (r : List Open) (d : ℕ) (x : Lexeme) (a c : Option State) → Moves r d x a → Moves r d x c → Moves r d x (else_state a c)
+pub else_moves : (r : Nest) (d : ℕ) (x : Lexeme) (a c : Option State) → Moves r d x a → Moves r d x c → Moves r d x (else_state a c)
 else_moves r d x None c g h = h
 else_moves r d x (Some s) c g h = g

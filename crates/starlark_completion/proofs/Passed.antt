@@ -1,10 +1,11 @@
--- Where plain lexemes, a line end and Dedents are accepted, they are with more line ends.
+-- Where what is put behind a text, a line end and Dedents are accepted, they are with more line ends.
 use Rattle.std.proofs.Common.{ℕ, ◌≡◌, ◌∷◌, ◌++◌, ◌∙◌, [], zero, suc, List, true, false, refl, ap, subst}
 use Rattle.starlark_lexer.specs.Items.{Lexeme, newline, dedent, dedents, Item, item}
 use Rattle.starlark_grammar.specs.Frames.{State}
 use Rattle.starlark_grammar.specs.Completion.{spelled}
 use Rattle.starlark_grammar.specs.Language.{bare}
-use Rattle.starlark_completion.specs.Plain.{Plain, a_name, an_else, an_in, a_pass, a_comma, a_colon, an_equal, an_opening, a_round, a_square, a_curly, a_string, lexeme_of, lexemes_of}
+use Rattle.starlark_cutting.specs.Spelling.{Plain, a_name, an_else, an_in, a_pass, a_comma, a_colon, an_equal, an_opening, a_round, a_square, a_curly, a_string, lexeme_of}
+use Rattle.starlark_cutting.specs.Opened.{Put, plain, a_letter, field_end, string_end, put_lexeme, put_lexemes}
 use Rattle.starlark_completion.specs.Shapes.{depth, Stage, within, at_beginning, in_block, before_block, stage, is_within}
 use Rattle.starlark_completion.specs.Moves.{Deeper}
 use Rattle.starlark_completion.specs.Ending.{copies}
@@ -26,6 +27,12 @@ plain_deeper a_square m n h = h
 plain_deeper a_curly m n h = h
 plain_deeper a_string m n h = h
 
+put_deeper : (p : Put) (m n : ℕ) → Deeper (put_lexeme p) m n → n ≡ m
+put_deeper (plain p) m n h = plain_deeper p m n h
+put_deeper a_letter m n h = h
+put_deeper field_end m n h = h
+put_deeper string_end m n h = h
+
 -- behind a line end, where Dedents are accepted
 more_lines : (s : State) (k n : ℕ) → depth s ≡ k → is_within (stage s) ≡ false → Accepted s (dedents 0 k) → Accepted s (newlines n (dedents 0 k))
 more_lines s k n q w a = go (stage s) refl w
@@ -36,16 +43,16 @@ more_lines s k n q w a = go (stage s) refl w
     go in_block e w = absurd (blank_not s e k a)
     go before_block e w = absurd (before_not s e k a)
 
-pub pass_lines : (l : List Plain) (s : State) (k n : ℕ) → depth s ≡ k → Accepted s (spelled 0 (lexemes_of l) (item 0 newline 0 ∷ dedents 0 k)) → Accepted s (spelled 0 (lexemes_of l) (item 0 newline 0 ∷ newlines n (dedents 0 k)))
+pub pass_lines : (l : List Put) (s : State) (k n : ℕ) → depth s ≡ k → Accepted s (spelled 0 (put_lexemes l) (item 0 newline 0 ∷ dedents 0 k)) → Accepted s (spelled 0 (put_lexemes l) (item 0 newline 0 ∷ newlines n (dedents 0 k)))
 pass_lines [] s k n q a =
     let h = accepted_steps s (item 0 newline 0) (dedents 0 k) a in
     let m = step_moves s h.state (item 0 newline 0) h.steps in
     accepted_step s h.state (item 0 newline 0) (newlines n (dedents 0 k)) h.steps (more_lines h.state k n (m.1 ∙ q) m.2 h.accepted)
 pass_lines (p ∷ l) s k n q a =
-    let x = item 0 (lexeme_of p) 0 in
-    let h = accepted_steps s x (spelled 0 (lexemes_of l) (item 0 newline 0 ∷ dedents 0 k)) a in
+    let x = item 0 (put_lexeme p) 0 in
+    let h = accepted_steps s x (spelled 0 (put_lexemes l) (item 0 newline 0 ∷ dedents 0 k)) a in
     let m = step_moves s h.state x h.steps in
-    accepted_step s h.state x (spelled 0 (lexemes_of l) (item 0 newline 0 ∷ newlines n (dedents 0 k))) h.steps (pass_lines l h.state k n (plain_deeper p (depth s) (depth h.state) m.1 ∙ q) h.accepted)
+    accepted_step s h.state x (spelled 0 (put_lexemes l) (item 0 newline 0 ∷ newlines n (dedents 0 k))) h.steps (pass_lines l h.state k n (put_deeper p (depth s) (depth h.state) m.1 ∙ q) h.accepted)
 
 -- their lexemes
 pub spelled_bare : (xs : List Lexeme) (ts : List Item) → bare (spelled 0 xs ts) ≡ xs ++ bare ts

@@ -1,25 +1,33 @@
 -- What is open, how many blocks are and where in its line a state is, by the tokens on the way to it.
-use Rattle.std.proofs.Common.{ℕ, ◌≡◌, ◌+◌, ◌⊎◌, inl, inr, List, Some, true, false, cond, refl, subst, arith, count_by}
+use Rattle.std.proofs.Common.{inl, inr, ◌⊎◌, ℕ, ◌≡◌, ◌+◌, List, Some, true, false, cond, refl, subst, arith, count_by}
 use Rattle.std.proofs.lemmas.List.Sums.{sum_by-cons}
 use Rattle.starlark_lexer.specs.Items.{Lexeme, newline, indent, dedent, Item}
 use Rattle.starlark_lexer.specs.Joining.{is_indent, is_dedent, dedent_item}
 use Rattle.starlark_grammar.specs.Frames.{State}
 use Rattle.starlark_grammar.specs.Machine.{step}
 use Rattle.starlark_grammar.specs.Language.{bare}
-use Rattle.starlark_completion.specs.Shapes.{shape, depth, Stage, within, at_beginning, in_block, before_block, stage, is_within}
+use Rattle.starlark_cutting.specs.Opened.{Goes_to, Way, within_text}
+use Rattle.starlark_completion.specs.Shapes.{nest, depth, Stage, within, at_beginning, in_block, before_block, stage, is_within}
 use Rattle.starlark_completion.specs.Moves.{Moves, Turned, Deeper, Staged}
-use Rattle.starlark_completion.specs.Ending.{Last, no_token, a_line_end, a_dedent, an_indent, another, kind_of, last_of, goes_on_line, indent_item}
-use Rattle.starlark_completion.specs.Counts.{Chain}
+use Rattle.starlark_completion.specs.Ending.{Last, no_token, a_line_end, a_dedent, an_indent, another, kind_of, last_of, goes_on_line, at_beginning_of_line, begins_block, indent_item}
 use Rattle.starlark_completion.proofs.Moving.{move_moves}
+use Rattle.starlark_completion.proofs.Nests.{InPiece, in_piece, state_text, turns_outside, turns_inside}
 use Rattle.starlark_completion.proofs.Running.{Path, no_step, a_step}
 
-pub step_moves : (s u : State) (x : Item) → step s x ≡ Some u → Turned x.lexeme (shape s) (shape u) × Deeper x.lexeme (depth s) (depth u) × Staged x.lexeme (stage u)
-step_moves s u x q = subst (Moves (shape s) (depth s) x.lexeme) q (move_moves s x.lexeme x.begin x.end)
+pub step_moves : (s u : State) (x : Item) → step s x ≡ Some u → Turned x.lexeme (nest s) (nest u) × Deeper x.lexeme (depth s) (depth u) × Staged x.lexeme (stage u)
+step_moves s u x q = subst (Moves (nest s) (depth s) x.lexeme) q (move_moves s x.lexeme x.begin x.end)
 
 -- brackets and f-strings
-pub path_chain : {s t : State} {w : List Item} → Path s w t → Chain (shape s) (bare w) (shape t)
-path_chain no_step = refl
-path_chain (a_step {s} {u} {x} q p) = (shape u, (step_moves s u x q).0, path_chain p)
+pub step_goes : (s u : State) (x : Item) → step s x ≡ Some u → Goes_to x.lexeme (nest s) (nest u)
+step_goes s u x q = go s q (step_moves s u x q).0 (state_text s)
+  where
+    go : (s : State) → step s x ≡ Some u → Turned x.lexeme (nest s) (nest u) → (within_text (nest s) ≡ false) ⊎ InPiece s → Goes_to x.lexeme (nest s) (nest u)
+    go s q h (inl z) = turns_outside x.lexeme (nest s) (nest u) z h
+    go s q h (inr (in_piece b f ms k)) = turns_inside x.lexeme b f ms k x.begin x.end u q h
+
+pub path_way : {s t : State} {w : List Item} → Path s w t → Way (nest s) (bare w) (nest t)
+path_way no_step = refl
+path_way (a_step {s} {u} {x} q p) = (nest u, (step_goes s u x q, path_way p))
 
 -- blocks
 deeper_by : (x : Lexeme) (m n : ℕ) → Deeper x m n → n + cond (is_dedent x) 1 0 ≡ m + cond (is_indent x) 1 0
@@ -53,10 +61,10 @@ path_stage l no_step f = f
 path_stage l (a_step {s} {u} {x} q p) f = path_stage (kind_of x.lexeme) p (staged_fits x.lexeme (stage u) (step_moves s u x q).2)
 
 pub data Where (l : Last) (g : Stage) : Type 0 where
-  a_line : goes_on_line l ≡ true → (g ≡ within) ⊎ (g ≡ in_block) → Where l g
-  a_beginning : goes_on_line l ≡ false → g ≡ at_beginning → Where l g
+  a_line : goes_on_line l ≡ true → g ≡ within → Where l g
+  a_beginning : at_beginning_of_line l ≡ true → g ≡ at_beginning → Where l g
   a_block : l ≡ a_line_end → g ≡ before_block → Where l g
-  a_blank : l ≡ a_line_end → g ≡ in_block → Where l g
+  a_blank : begins_block l ≡ true → g ≡ in_block → Where l g
 
 behind_line_end : (g : Stage) → is_within g ≡ false → Where a_line_end g
 behind_line_end within q = absurd (let z : true ≡ false = q in (cc))
@@ -68,5 +76,5 @@ pub where_it_is : (l : Last) (g : Stage) → Fits l g → Where l g
 where_it_is no_token g f = a_beginning refl f
 where_it_is a_line_end g f = behind_line_end g f
 where_it_is a_dedent g f = a_beginning refl f
-where_it_is an_indent g f = a_line refl (inr f)
-where_it_is another g f = a_line refl (inl f)
+where_it_is an_indent g f = a_blank refl f
+where_it_is another g f = a_line refl f

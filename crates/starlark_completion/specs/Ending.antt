@@ -5,7 +5,6 @@ use Rattle.starlark_lexer.specs.Joining.{is_indent, dedent_item, IsEven}
 use Rattle.starlark_ast.specs.Tree.{Statement}
 use Rattle.starlark_grammar.specs.Grammar.{Derives}
 use Rattle.starlark_grammar.specs.Language.{bare}
-use Rattle.starlark_completion.specs.Plain.{Plain, lexemes_of}
 
 -- what stands last
 pub data Last : Type 0 where
@@ -21,11 +20,23 @@ abbrev pub last_of : Last → List Item → Last
 last_of l [] = l
 last_of l (x ∷ xs) = last_of (kind_of x.lexeme) xs
 
--- behind that a line goes on, or begins behind an Indent
+-- behind that a line goes on
 abbrev pub goes_on_line : Last → Bool
-goes_on_line an_indent = true
 goes_on_line another = true
 goes_on_line l = false
+
+-- behind that a line begins, no block's first
+abbrev pub at_beginning_of_line : Last → Bool
+at_beginning_of_line no_token = true
+at_beginning_of_line a_line_end = true
+at_beginning_of_line a_dedent = true
+at_beginning_of_line l = false
+
+-- behind that a block's first line begins
+abbrev pub begins_block : Last → Bool
+begins_block a_line_end = true
+begins_block an_indent = true
+begins_block l = false
 
 abbrev pub indent_item : Item → Bool
 indent_item x = is_indent x.lexeme
@@ -41,16 +52,21 @@ Goes xs = (u : List Item) → bare u ≡ xs → (raw : Statement) × Derives u r
 
 -- Where so many blocks are open and no f-string is, the tokens go on to a program.
 pub data Ending (w : List Item) (k : ℕ) : Type 0 where
-  -- in a line: by these lexemes, a line end, and so many more
-  in_line : (l : List Plain) → goes_on_line (last_of no_token w) ≡ true → ((v : List Item) → bare v ≡ bare w ++ lexemes_of l → IsEven v) → ((n : ℕ) → Goes (bare w ++ (lexemes_of l ++ newline ∷ (copies n newline ++ copies k dedent)))) → Ending w k
   -- at a line's beginning: by nothing, or line ends
-  at_line : goes_on_line (last_of no_token w) ≡ false → IsEven w → ((n : ℕ) → Goes (bare w ++ (copies n newline ++ copies k dedent))) → Ending w k
+  at_line : at_beginning_of_line (last_of no_token w) ≡ true → IsEven w → ((n : ℕ) → Goes (bare w ++ (copies n newline ++ copies k dedent))) → Ending w k
   -- before a block: by one with a line `pass`
   before_block : last_of no_token w ≡ a_line_end → IsEven w → ((n : ℕ) → Goes (bare w ++ (indent ∷ keyword_pass ∷ newline ∷ (copies n newline ++ copies (suc k) dedent)))) → Ending w k
-  -- in a block that has line ends alone: by such a line
-  in_block : last_of no_token w ≡ a_line_end → IsEven w → ((n : ℕ) → Goes (bare w ++ (keyword_pass ∷ newline ∷ (copies n newline ++ copies k dedent)))) → Ending w k
+  -- in a block that has line ends alone, or nothing yet: by such a line
+  in_block : begins_block (last_of no_token w) ≡ true → IsEven w → ((n : ℕ) → Goes (bare w ++ (keyword_pass ∷ newline ∷ (copies n newline ++ copies k dedent)))) → Ending w k
 
 pub record CanEnd (w : List Item) : Type 0 where
   pub depth : ℕ
   pub blocks : count_by indent_item w ≡ depth + count_by dedent_item w
   pub ending : Ending w depth
+
+-- At a line's beginning: tokens that go on by line ends and as many Dedents as blocks are open.
+pub record IsAtLine (w : List Item) : Type 0 where
+  pub depth : ℕ
+  pub blocks : count_by indent_item w ≡ depth + count_by dedent_item w
+  pub even : IsEven w
+  pub goes : (n : ℕ) → Goes (bare w ++ (copies n newline ++ copies depth dedent))

@@ -1,7 +1,9 @@
-pub mod Plain
 pub mod Shapes
 pub mod Moves
 pub mod Ending
+pub mod Closing
 pub mod Laws
 pub mod Counts
 pub mod Closes
+pub mod GoesOn
+pub mod Cuts

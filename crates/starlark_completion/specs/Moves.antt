@@ -1,20 +1,25 @@
 -- What a token does to what is open.
-use Rattle.std.specs.Prelude.{ℕ, ◌≡◌, List, ◌∷◌, suc, Option, Some, None, false}
-use Rattle.starlark_lexer.specs.Items.{Lexeme, newline, indent, dedent, fstring_start, fstring_end, opening_round, opening_square, opening_curly, closing_round, closing_square, closing_curly}
+use Rattle.std.specs.Prelude.{ℕ, ◌≡◌, suc, Option, Some, None, false}
+use Rattle.starlark_lexer.specs.Items.{Lexeme, newline, indent, dedent, fstring_start, fstring_text, fstring_expr_start, fstring_bang, fstring_expr_end, fstring_end, opening_round, opening_square, opening_curly, closing_round, closing_square, closing_curly}
 use Rattle.starlark_grammar.specs.Frames.{State}
-use Rattle.starlark_completion.specs.Shapes.{Open, a_bracket, a_string, shape, depth, Stage, within, at_beginning, in_block, stage, is_within}
+use Rattle.starlark_cutting.specs.Opened.{Nest, in_field, in_text, deeper}
+use Rattle.starlark_completion.specs.Shapes.{nest, depth, Stage, within, at_beginning, in_block, stage, is_within}
 
--- the brackets and f-strings before it and behind it
-abbrev pub Turned : Lexeme → List Open → List Open → Type 0
-Turned opening_round r t = t ≡ a_bracket ∷ r
-Turned opening_square r t = t ≡ a_bracket ∷ r
-Turned opening_curly r t = t ≡ a_bracket ∷ r
-Turned closing_round r t = r ≡ a_bracket ∷ t
-Turned closing_square r t = r ≡ a_bracket ∷ t
-Turned closing_curly r t = r ≡ a_bracket ∷ t
-Turned (fstring_start q) r t = t ≡ a_string ∷ r
-Turned fstring_end r t = r ≡ a_string ∷ t
-Turned x r t = t ≡ r
+-- where the place before it is, and the one behind it: as `Goes_to`, which says too which tokens stand in the text of an f-string
+abbrev pub Turned : Lexeme → Nest → Nest → Type 0
+Turned opening_round m n = n ≡ deeper m
+Turned opening_square m n = n ≡ deeper m
+Turned opening_curly m n = n ≡ deeper m
+Turned closing_round m n = m ≡ deeper n
+Turned closing_square m n = m ≡ deeper n
+Turned closing_curly m n = m ≡ deeper n
+Turned (fstring_start q) m n = n ≡ in_text m
+Turned (fstring_text v) m n = (k : Nest) × ((m ≡ in_text k) × (n ≡ m))
+Turned fstring_expr_start m n = (k : Nest) × ((m ≡ in_text k) × (n ≡ in_field 0 k))
+Turned fstring_bang m n = (k : Nest) × ((m ≡ in_field 0 k) × (n ≡ m))
+Turned fstring_expr_end m n = (k : Nest) × ((m ≡ in_field 0 k) × (n ≡ in_text k))
+Turned fstring_end m n = m ≡ in_text n
+Turned x m n = n ≡ m
 
 -- how many blocks are around
 abbrev pub Deeper : Lexeme → ℕ → ℕ → Type 0
@@ -30,6 +35,6 @@ Staged dedent g = g ≡ at_beginning
 Staged x g = g ≡ within
 
 -- behind that token, where a state does come
-abbrev pub Moves : List Open → ℕ → Lexeme → Option State → Type 0
+abbrev pub Moves : Nest → ℕ → Lexeme → Option State → Type 0
 Moves r d x None = Unit {0}
-Moves r d x (Some s) = Turned x r (shape s) × Deeper x d (depth s) × Staged x (stage s)
+Moves r d x (Some s) = Turned x r (nest s) × Deeper x d (depth s) × Staged x (stage s)

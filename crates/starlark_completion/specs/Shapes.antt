@@ -1,69 +1,67 @@
--- What is open in a state of the machine: brackets and f-strings, the blocks around its line, and whether a line begins there.
-use Rattle.std.specs.Prelude.{ℕ, List, ◌∷◌, [], suc, Bool, true, false}
+-- Where a state of the machine is: among f-strings and brackets that are open, within how many blocks, and where in its line.
+use Rattle.std.specs.Prelude.{ℕ, suc, Bool, true, false}
 use Rattle.starlark_ast.specs.Tree.{no_statements}
 use Rattle.starlark_grammar.specs.Points.{Place, before_body, Frame, member, key, bound, second, over, filter, field, Point, member_wanted, member_read, key_read, bound_wanted, bound_read, second_read, clauses_read, piece_wanted, field_read, letter_wanted, letter_read}
 use Rattle.starlark_grammar.specs.Frames.{Blocks, outer, inner, Ifs, at_if, at_elif, Suites, of_if, of_else, of_for, of_def, Head, head, Rows, at_block, at_suite, Line, line, Spots, first, annotation, test, source, param_type, param_default, result_type, Lists, left, right, returned, target, Frames, tail, inside, listed, spot, State, wants, has, stands, perhaps_named, wants_list, wants_next, at_line, behind_for, behind_if, wants_colon, wants_suite, wants_indent, behind_small, wants_small, behind_return, load_opens, load_module, load_named, load_symbol, load_equal, load_other, load_behind, def_name, def_opens, wants_param, behind_star, behind_stars, behind_name, behind_param, wants_result}
+use Rattle.starlark_cutting.specs.Opened.{Nest, outside, in_field, in_text, deeper}
 
--- what is open, the innermost first
-pub data Open : Type 0 where
-  a_bracket a_string : Open
-
-abbrev pub in_place : Place → List Open → List Open
+-- in a construct of an expression, where that stands there
+abbrev pub in_place : Place → Nest → Nest
 in_place (before_body b) r = r
-in_place w r = a_bracket ∷ r
+in_place w r = deeper r
 
-abbrev pub in_frame : Frame → List Open → List Open
+abbrev pub in_frame : Frame → Nest → Nest
 in_frame (member w ms f b o) r = in_place w r
-in_frame (key b ms f g) r = a_bracket ∷ r
-in_frame (bound l bs) r = a_bracket ∷ r
-in_frame (second l s) r = a_bracket ∷ r
-in_frame (over p b m cs t) r = a_bracket ∷ r
-in_frame (filter p b m cs) r = a_bracket ∷ r
-in_frame (field b f ms) r = a_string ∷ r
+in_frame (key b ms f g) r = deeper r
+in_frame (bound l bs) r = deeper r
+in_frame (second l s) r = deeper r
+in_frame (over p b m cs t) r = deeper r
+in_frame (filter p b m cs) r = deeper r
+in_frame (field b f ms) r = in_field 0 r
 in_frame f r = r
 
-abbrev pub at_point : Point → List Open → List Open
+abbrev pub at_point : Point → Nest → Nest
 at_point (member_wanted w ms t e f) r = in_place w r
 at_point (member_read w ms e f) r = in_place w r
-at_point (key_read b ms f g q) r = a_bracket ∷ r
-at_point (bound_wanted q bs) r = a_bracket ∷ r
-at_point (bound_read q bs s) r = a_bracket ∷ r
-at_point (second_read q s t) r = a_bracket ∷ r
-at_point (clauses_read p b m cs) r = a_bracket ∷ r
-at_point (piece_wanted b f ms) r = a_string ∷ r
-at_point (field_read b f ms q) r = a_string ∷ r
-at_point (letter_wanted b f ms q g h) r = a_string ∷ r
-at_point (letter_read b f ms) r = a_string ∷ r
+at_point (key_read b ms f g q) r = deeper r
+at_point (bound_wanted q bs) r = deeper r
+at_point (bound_read q bs s) r = deeper r
+at_point (second_read q s t) r = deeper r
+at_point (clauses_read p b m cs) r = deeper r
+at_point (piece_wanted b f ms) r = in_text r
+at_point (field_read b f ms q) r = in_field 0 r
+at_point (letter_wanted b f ms q g h) r = in_field 0 r
+at_point (letter_read b f ms) r = in_field 0 r
 at_point p r = r
 
-abbrev pub in_spot : Spots → List Open
-in_spot (param_type h ps y n p) = a_bracket ∷ []
-in_spot (param_default h ps n t p) = a_bracket ∷ []
-in_spot k = []
+abbrev pub in_spot : Spots → Nest
+in_spot (param_type h ps y n p) = outside 1
+in_spot (param_default h ps n t p) = outside 1
+in_spot k = outside 0
 
-abbrev pub in_frames : Frames → List Open
+abbrev pub in_frames : Frames → Nest
 in_frames (tail n k) = in_frames k
 in_frames (inside f k) = in_frame f (in_frames k)
-in_frames (listed ms p k) = []
+in_frames (listed ms p k) = outside 0
 in_frames (spot k) = in_spot k
 
-abbrev pub shape : State → List Open
-shape (wants n k) = in_frames k
-shape (has q e k) = in_frames k
-shape (stands p k) = at_point p (in_frames k)
-shape (perhaps_named q ms f n u v k) = a_bracket ∷ in_frames k
-shape (load_module p k) = a_bracket ∷ []
-shape (load_named p m k) = a_bracket ∷ []
-shape (load_symbol p m ss k) = a_bracket ∷ []
-shape (load_equal p m ss n k) = a_bracket ∷ []
-shape (load_other p m ss n k) = a_bracket ∷ []
-shape (load_behind p m ss s k) = a_bracket ∷ []
-shape (wants_param h ps) = a_bracket ∷ []
-shape (behind_star h ps p e) = a_bracket ∷ []
-shape (behind_stars h ps p) = a_bracket ∷ []
-shape (behind_name h ps y n p e) = a_bracket ∷ []
-shape (behind_param h ps) = a_bracket ∷ []
-shape s = []
+abbrev pub nest : State → Nest
+nest (wants n k) = in_frames k
+nest (has q e k) = in_frames k
+nest (stands p k) = at_point p (in_frames k)
+nest (perhaps_named q ms f n u v k) = deeper (in_frames k)
+nest (load_module p k) = outside 1
+nest (load_named p m k) = outside 1
+nest (load_symbol p m ss k) = outside 1
+nest (load_equal p m ss n k) = outside 1
+nest (load_other p m ss n k) = outside 1
+nest (load_behind p m ss s k) = outside 1
+nest (wants_param h ps) = outside 1
+nest (behind_star h ps p e) = outside 1
+nest (behind_stars h ps p) = outside 1
+nest (behind_name h ps y n p e) = outside 1
+nest (behind_param h ps) = outside 1
+nest s = outside 0
 
 -- how many indented suites are around
 abbrev mutual

@@ -1,21 +1,80 @@
-//! Laws of texts that go on.
+//! Laws of tokens and of texts that go on.
 
-ghost use Rattle.std.specs.Prelude.{◌≡◌, List};
-ghost use Rattle.starlark_lexer.specs.Items.{Item};
-ghost use Rattle.starlark_lexer.specs.Joining.{open_behind};
+ghost use Rattle.std.specs.Prelude.{◌++◌, ◌∷◌, ◌≡◌, List, [], false, take, ℕ};
+ghost use Rattle.starlark_lexer.specs.Items.{Item, Lexed, dedent, fstring_expr_start, fstring_text, item};
+ghost use Rattle.starlark_lexer.specs.Lex.{Lex, start};
 ghost use Rattle.starlark_lexer.specs.declared.dialect.Dialect.{Dialect};
-ghost use Rattle.starlark_grammar.specs.Language.{IsViable};
-ghost use Rattle.starlark_completion.specs.Ending.{CanEnd};
+ghost use Rattle.starlark_grammar.specs.Language.{Fault, IsRefused, IsViable, last_end, without_comments};
+ghost use Rattle.starlark_completion.specs.Closing.{CanClose};
+ghost use Rattle.starlark_completion.specs.Ending.{CanEnd, IsAtLine, another, goes_on_line, last_of, no_token};
+ghost use Rattle.starlark_completion.specs.GoesOn.{CanGoOn, IsRefusedText};
 
+use starlark_cutting::laws::{
+    cut_off, cut_off_blocks, cut_off_ends, cut_off_fields, cut_off_indents, cut_off_kinds,
+    cut_off_lines, cut_off_whole,
+};
 use starlark_grammar::laws::{complete, goes_on, sound, stuck_at_dead};
+use starlark_lexer::laws::in_order;
 
-/// Tokens that go on to a program and leave no f-string open do so by plain lexemes, which close
-/// their brackets, line ends, and as many Dedents as blocks are open.
+/// Tokens behind which a line begins go on to a program by line ends, a line `pass` where a block is
+/// wanted, and as many Dedents as blocks are open.
 pub fn can_end()
-    ensures { (dialect : Dialect) (w : List Item) → IsViable dialect w → open_behind 0 w ≡ 0 → CanEnd w }
+    ensures { (dialect : Dialect) (w : List Item) → IsViable dialect w → goes_on_line (last_of no_token w) ≡ false → CanEnd w }
 {
     sound();
     complete();
     goes_on();
     stuck_at_dead();
+}
+
+/// Tokens that go on to a program do so within a line, whatever is open there: by what closes it, a
+/// line end, and as many Dedents as blocks are open. Behind the text of an f-string a field begins
+/// before that.
+pub fn can_close()
+    ensures line { (dialect : Dialect) (w : List Item) → IsViable dialect w → last_of no_token w ≡ another → CanClose w }
+    ensures text { (dialect : Dialect) (w : List Item) (z : Item) (v : List ℕ) → z.lexeme ≡ fstring_text v → IsViable dialect (w ++ z ∷ []) → CanClose ((w ++ z ∷ []) ++ item 0 fstring_expr_start 0 ∷ []) }
+{
+    sound();
+    complete();
+    goes_on();
+    stuck_at_dead();
+}
+
+/// Before a Dedent a line begins: tokens that stand before one go on to a program by line ends, and
+/// as many Dedents as blocks are open.
+pub fn before_dedent()
+    ensures { (dialect : Dialect) (w : List Item) (z : Item) → z.lexeme ≡ dedent → IsViable dialect (w ++ z ∷ []) → IsAtLine w }
+{
+    sound();
+    complete();
+    goes_on();
+    stuck_at_dead();
+}
+
+/// Tokens that are read from a text and go on to a program do so in that text: the text up to the
+/// end of the last of them, comments behind it left out, goes on.
+pub fn can_go_on()
+    ensures { (dialect : Dialect) (text : List ℕ) (l : Lexed) (w rest : List Item) → Lex start text l → w ++ rest ≡ without_comments l.items → IsViable dialect w → CanGoOn (take (last_end 0 w) text) }
+{
+    sound();
+    complete();
+    goes_on();
+    stuck_at_dead();
+    in_order();
+    cut_off();
+    cut_off_fields();
+    cut_off_lines();
+    cut_off_indents();
+    cut_off_blocks();
+    cut_off_whole();
+    cut_off_kinds();
+    cut_off_ends();
+}
+
+/// Where a text is refused for syntax, the text before the token, or the end, that is refused goes
+/// on to a program.
+pub fn refused_goes_on()
+    ensures { (dialect : Dialect) (text : List ℕ) (f : Fault) → IsRefused dialect text f → IsRefusedText dialect text f }
+{
+    can_go_on();
 }
