@@ -10,7 +10,7 @@ use Rattle.starlark_cutting.specs.Opened.{Nest, outside, in_field, in_text, Way,
 pub record Cuts : Type 0 where
   -- in_order, the clause `order`
   pub order : (text : List ℕ) (l : Lexed) → Lex start text l → InOrder 0 (length text) l.items l.fault
-  -- cut_off, the clause `empty`
+  -- empty_text
   pub empty : Lex start [] (with_items (item 0 newline 0 ∷ []) nothing)
   -- cut_off_fields
   pub line : (u v : List ℕ) (before : List Item) (z : Item) (behind : List Item) (n : Nest) (xs : List Put) → IsCutAt u v before z behind → inner z.lexeme ≡ true → is_text z.lexeme ≡ false

@@ -10,8 +10,8 @@ ghost use Rattle.starlark_completion.specs.Ending.{CanEnd, IsAtLine, another, go
 ghost use Rattle.starlark_completion.specs.GoesOn.{CanGoOn, IsRefusedText};
 
 use starlark_cutting::laws::{
-    cut_off, cut_off_blocks, cut_off_ends, cut_off_fields, cut_off_indents, cut_off_kinds,
-    cut_off_lines, cut_off_whole,
+    cut_off_blocks, cut_off_ends, cut_off_fields, cut_off_indents, cut_off_kinds, cut_off_lines,
+    cut_off_whole, empty_text,
 };
 use starlark_grammar::laws::{complete, goes_on, sound, stuck_at_dead};
 use starlark_lexer::laws::in_order;
@@ -61,7 +61,7 @@ pub fn can_go_on()
     goes_on();
     stuck_at_dead();
     in_order();
-    cut_off();
+    empty_text();
     cut_off_fields();
     cut_off_lines();
     cut_off_indents();

@@ -17,7 +17,7 @@ use Rattle.starlark_cutting.proofs.KeptMoves.{At, not_inside}
 use Rattle.starlark_cutting.proofs.KeptSteps.{goes}
 use Rattle.starlark_cutting.proofs.KeptTracks.{Tracks, tracks}
 use Rattle.starlark_cutting.proofs.KeptCut.{both_tracks, outside_counted}
-use Rattle.starlark_cutting.proofs.KeptList.{counted}
+use Rattle.starlark_cutting.proofs.KeptPuts.{counted}
 use Rattle.starlark_cutting.proofs.KeptRemarks.{whole_len}
 use Rattle.starlark_cutting.proofs.KeptReach.{Reach, one_more, find, far_reach}
 use Rattle.starlark_cutting.proofs.KeptFresh.{Begun, begun, begun_lines, nothing_yet}

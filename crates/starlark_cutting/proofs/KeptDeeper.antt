@@ -16,9 +16,8 @@ use Rattle.starlark_lexer.proofs.Widths.{no_lines}
 use Rattle.starlark_cutting.proofs.KeptLines.{Stops}
 use Rattle.starlark_cutting.proofs.KeptTracks.{tracks}
 use Rattle.starlark_cutting.proofs.KeptCut.{both_tracks}
-use Rattle.starlark_cutting.proofs.KeptPuts.{Among, alone_lexeme, among_plain, end_line}
+use Rattle.starlark_cutting.proofs.KeptPuts.{Among, alone_lexeme, among_plain, end_line, counted}
 use Rattle.starlark_cutting.proofs.KeptSpelled.{a_pass}
-use Rattle.starlark_cutting.proofs.KeptList.{counted}
 use Rattle.starlark_cutting.proofs.KeptFresh.{Begun}
 
 and_yes : (a b : Bool) → (a && b) ≡ true → (a ≡ true) × (b ≡ true)

@@ -10,7 +10,7 @@ use Rattle.starlark_lexer.proofs.JoinedBodies.{Ended}
 use Rattle.starlark_cutting.proofs.KeptRemarks.{ended_behind, full_ended}
 use Rattle.starlark_cutting.proofs.KeptMoves.{At, BodyFits, Fresh, fresh_body, first_kept, stands_kept}
 use Rattle.starlark_cutting.proofs.KeptSteps.{blank_kept, remark_kept, remark_len}
-use Rattle.starlark_cutting.proofs.KeptList.{counted}
+use Rattle.starlark_cutting.proofs.KeptPuts.{counted}
 use Rattle.starlark_cutting.proofs.KeptReach.{is_line}
 
 pub record Ends (p : Past) (xs : List Item) (q : Past) (u v : List ℕ) : Type 0 where

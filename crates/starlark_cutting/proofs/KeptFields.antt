@@ -1,7 +1,7 @@
 -- A text cut off behind a lexeme, with f-strings that are open there, and words put behind it that close them: what it is cut into.
-use Rattle.std.proofs.Common.{◌≡◌, ℕ, true, false, List, [], ◌∷◌, ◌++◌, length, map, refl, ap, sym, ◌∙◌, arith, subst}
+use Rattle.std.proofs.Common.{◌≡◌, ℕ, ◌+◌, true, false, List, [], ◌∷◌, ◌++◌, length, map, refl, ap, sym, ◌∙◌, arith, subst}
 use Rattle.std.specs.Prelude.{count_by}
-use Rattle.starlark_lexer.specs.Items.{Lexeme, Item, fstring_expr_start, fstring_text, opening_item, closing_item}
+use Rattle.starlark_lexer.specs.Items.{Lexeme, Item, item, nothing, newline, dedents, with_items, fstring_expr_start, fstring_text, opening_item, closing_item}
 use Rattle.starlark_lexer.specs.Widths.{Closes}
 use Rattle.starlark_lexer.specs.Lex.{Mode, Past, Lex, start}
 use Rattle.starlark_lexer.specs.Lex as rules
@@ -10,7 +10,6 @@ use Rattle.starlark_cutting.specs.Cutting.{inner, IsCutAt}
 use Rattle.starlark_cutting.specs.Opened.{Nest, outside, in_field, in_text, is_text, Way, Put, put_lexemes, IsFinishedBy}
 use Rattle.starlark_cutting.proofs.KeptTexts.{upto}
 use Rattle.starlark_cutting.proofs.KeptPuts.{Among, end_line}
-use Rattle.starlark_cutting.proofs.KeptWhole.{plainly}
 use Rattle.starlark_cutting.proofs.KeptLinked.{Linked, names}
 use Rattle.starlark_cutting.proofs.KeptOnce.{last_text}
 use Rattle.starlark_cutting.proofs.KeptWay.{CutOn, cut_on}
@@ -24,6 +23,15 @@ line_by (rules.inside b g) [] its h = absurd h
 line_by (rules.inside b g) (m ∷ os) its h = absurd h
 line_by (rules.field b g bs) [] its h = absurd h
 line_by (rules.field b g bs) (m ∷ os) its h = absurd h
+
+-- without the sums of nothing
+plainly : (u s : List ℕ) (front put : List Item) (n k : ℕ)
+    → Lex start (u ++ (s ++ 10 ∷ [])) (with_items front (with_items put (with_items (item (n + 0) newline (n + 0 + 1) ∷ []) (with_items (item (n + 1 + 0) newline (n + 1 + 0) ∷ dedents (n + 1 + 0) k) nothing))))
+    → Lex start (u ++ (s ++ 10 ∷ [])) (with_items front (with_items put (with_items (item n newline (n + 1) ∷ []) (with_items (item (n + 1) newline (n + 1) ∷ dedents (n + 1) k) nothing))))
+plainly u s front put n k h =
+    let e : n + 0 ≡ n = omega arith in
+    let f : n + 1 + 0 ≡ n + 1 = omega arith in
+    subst (λ l. Lex start (u ++ (s ++ 10 ∷ [])) l) (λ i. with_items front (with_items put (with_items (item (e i) newline (e i + 1) ∷ []) (with_items (item (f i) newline (f i) ∷ dedents (f i) k) nothing)))) h
 
 finish : (u v : List ℕ) (front : List Item) (n : Nest) (xs : List Lexeme) (c : CutOn start u v front n) → PutOn (last_text front) c.past xs → IsFinishedBy u front xs
 finish u v front n xs c r =

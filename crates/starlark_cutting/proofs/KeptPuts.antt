@@ -1,6 +1,6 @@
 -- A lexeme that is put behind a text with a blank before it, and the line feed that ends the text.
-use Rattle.std.proofs.Common.{◌≡◌, ◌<◌, ℕ, ◌+◌, true, false, List, [], ◌∷◌, ◌++◌, length, take, drop, refl, ap, sym, ◌∙◌, arith, suc, inl, subst, length-append}
-use Rattle.std.specs.Prelude.{Some}
+use Rattle.std.proofs.Common.{◌≡◌, ◌<◌, ℕ, ◌+◌, Bool, cond, true, false, List, [], ◌∷◌, ◌++◌, length, take, drop, refl, ap, sym, ◌∙◌, arith, suc, inl, subst, length-append}
+use Rattle.std.specs.Prelude.{Some, count_by}
 use Rattle.std.proofs.lemmas.List.{drop-append-le, drop_all}
 use Rattle.starlark_lexer.specs.declared.literal.Form.{Form}
 use Rattle.starlark_lexer.specs.Items.{Lexeme, Item, item, Lexed, nothing, newline, dedents, with_items}
@@ -9,6 +9,7 @@ use Rattle.starlark_lexer.specs.Widths.{Closes}
 use Rattle.starlark_lexer.specs.Classes.{meaning, token, IsLexeme}
 use Rattle.starlark_lexer.specs.Lex.{Mode, Past, Move, Step, Lex, on, over, IsPlain, IsBalanced, moved, gives, recorded, mode_behind, is_inside, goes_on, is_over}
 use Rattle.starlark_lexer.specs.Lex as rules
+use Rattle.starlark_lexer.proofs.JoinedOn.{count_cons}
 use Rattle.starlark_cutting.proofs.KeptLines.{Stops, past_none, first_not, unescaped}
 
 -- the text is the lexeme where a blank or a line feed stands behind it
@@ -68,3 +69,7 @@ end_line p closed a even shut =
     let it : Item = item (p.place + 0) newline (p.place + 0 + 1) in
     let q : Past = record { place = p.place + 1; items = recorded p.mode it p.items; lines = p.lines; fresh = true; mode = mode_behind p.mode newline; outer = p.outer } in
     goes_on p (10 ∷ []) (it ∷ []) q [] _ (rules.ends_line p [] a.fresh a.mode even) (is_over q [] _ (rules.last_line q [] closed refl refl shut))
+
+-- a lexeme among lexemes is counted where it stands
+pub counted : (f : Item → Bool) (m : Mode) (it : Item) (xs : List Item) → m ≡ rules.code → count_by f (recorded m it xs) ≡ cond (f it) 1 0 + count_by f xs
+counted f m it xs e = ap (λ k. count_by f (recorded k it xs)) e ∙ count_cons f it xs

@@ -13,7 +13,7 @@ use Rattle.starlark_lexer.proofs.Ordered.{inside, escaped_most}
 use Rattle.starlark_cutting.specs.Cutting.{tokens_of}
 use Rattle.starlark_cutting.proofs.KeptLines.{Stops, escaped_kept}
 use Rattle.starlark_cutting.proofs.KeptMoves.{At, not_inside}
-use Rattle.starlark_cutting.proofs.KeptList.{counted}
+use Rattle.starlark_cutting.proofs.KeptPuts.{counted}
 use Rattle.starlark_cutting.proofs.KeptReach.{Reach, stays, more}
 use Rattle.starlark_cutting.proofs.KeptFinal.{Ends, lexeme_ends, literal_ends, leaves_ends, code_behind, inside_code, field_code}
 use Rattle.starlark_cutting.proofs.KeptFeeds.{all_blank, and_yes, joint, none_behind, all_line}

@@ -12,9 +12,7 @@ mod KeptCut
 mod KeptTexts
 mod KeptPuts
 mod KeptString
-mod KeptList
 mod KeptSpelled
-mod KeptWhole
 mod KeptReach
 mod KeptEnds
 mod KeptFresh

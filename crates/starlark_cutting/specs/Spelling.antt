@@ -1,5 +1,5 @@
 -- Lexemes that are put behind a text, and how they are spelled.
-use Rattle.std.specs.Prelude.{ℕ, List, [], ◌∷◌, ◌++◌}
+use Rattle.std.specs.Prelude.{ℕ, List, [], ◌∷◌}
 use Rattle.starlark_lexer.specs.Items.{Lexeme, identifier, string, keyword_else, keyword_in, keyword_pass, comma, colon, equal, opening_round, closing_round, closing_square, closing_curly}
 
 -- the lexemes that are put behind a text
@@ -35,12 +35,3 @@ spelling a_round = 41 ∷ []
 spelling a_square = 93 ∷ []
 spelling a_curly = 125 ∷ []
 spelling a_string = 34 ∷ 34 ∷ []
-
--- each behind a blank
-abbrev pub spellings : List Plain → List ℕ
-spellings [] = []
-spellings (x ∷ xs) = 32 ∷ (spelling x ++ spellings xs)
-
-abbrev pub lexemes_of : List Plain → List Lexeme
-lexemes_of [] = []
-lexemes_of (x ∷ xs) = lexeme_of x ∷ lexemes_of xs

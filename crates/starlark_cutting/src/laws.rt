@@ -4,16 +4,12 @@ ghost use Rattle.std.specs.Prelude.{◌++◌, ◌+◌, ◌<◌, ◌∷◌, ◌�
 ghost use Rattle.starlark_lexer.specs.Items.{Item, dedent, fstring_expr_start, fstring_text, indent, item, newline, nothing, with_items};
 ghost use Rattle.starlark_lexer.specs.Joining.{open_behind};
 ghost use Rattle.starlark_lexer.specs.Lex.{Lex, start};
-ghost use Rattle.starlark_cutting.specs.Cutting.{EvenWith, IsClosedBefore, IsClosedOff, IsContinued, IsCutAt, IsDeepened, IsEnded, IsFilled, IsFinished, IsIndented, inner};
+ghost use Rattle.starlark_cutting.specs.Cutting.{EvenWith, IsClosedBefore, IsClosedOff, IsContinued, IsCutAt, IsDeepened, IsEnded, IsFilled, IsIndented, inner};
 ghost use Rattle.starlark_cutting.specs.Opened.{IsFinishedBy, Nest, Put, Way, in_field, in_text, is_text, outside, put_lexemes};
-ghost use Rattle.starlark_cutting.specs.Spelling.{Plain, lexemes_of, spellings};
 
-/// A text that is cut off behind a lexeme within a line, outside all f-strings, is cut into the same
-/// up to there with words behind it and a line feed, where brackets are closed then; behind these
-/// words stand the line end and the end of the text. The empty text is cut into a line end.
-pub fn cut_off()
-    ensures empty { Lex start [] (with_items (item 0 newline 0 ∷ []) nothing) }
-    ensures line { (u v : List ℕ) (before : List Item) (z : Item) (behind : List Item) (s : List Plain) → IsCutAt u v before z behind → inner z.lexeme ≡ true → open_behind 0 (before ++ z ∷ []) ≡ 0 → EvenWith (before ++ z ∷ []) (lexemes_of s) → IsFinished u (spellings s) (before ++ z ∷ []) (lexemes_of s) }
+/// The empty text is cut into a line end.
+pub fn empty_text()
+    ensures { Lex start [] (with_items (item 0 newline 0 ∷ []) nothing) }
 {}
 
 /// A text that is cut off behind a line end, or behind a `Dedent` that is not at the text's end, is

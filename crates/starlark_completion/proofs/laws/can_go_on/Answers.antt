@@ -4,7 +4,7 @@ use Rattle.starlark_completion.proofs.laws.can_go_on.Goals as goal
 pub returns : goal.returns
 returns c = can_go_on (record { sound = c.sound.ensures; complete = c.complete.ensures.accepts; completes = c.goes_on.ensures; stuck_at_dead = c.stuck_at_dead.ensures }) (record {
   order = c.in_order.ensures.order;
-  empty = c.cut_off.ensures.empty;
+  empty = c.empty_text.ensures;
   line = c.cut_off_fields.ensures.line;
   text = c.cut_off_fields.ensures.text;
   closed_line = c.cut_off_lines.ensures.line;
