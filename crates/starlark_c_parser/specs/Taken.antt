@@ -4,7 +4,8 @@ use Rattle.std.specs.Bool.{MatchBool}
 use Rattle.starlark_lexer.specs.declared.dialect.Dialect.{Dialect}
 use Rattle.starlark_lexer.specs.declared.dialect.DialectTypes.TheVariants.{Disable, Enable}
 use Rattle.starlark_ast.specs.Tree.{Statement}
-use Rattle.starlark_grammar.specs.Language.{Fault, IsRefused, Language}
+use Rattle.starlark_grammar.specs.Language.{Fault, Language}
+use Rattle.starlark_completion.specs.GoesOn.{IsRefusedText}
 use Rattle.starlark_parser.specs.Modules.{dialect_of as dialect_read, file_of, tree_of}
 use Rattle.starlark_parser.specs.declared.module.AstModule.{AstModule}
 use Rattle.starlark_c_parser.specs.declared.switches.Switches.{Switches}
@@ -31,7 +32,7 @@ pub record HasTree (dialect : Dialect) (text : List ℕ) : Type 0 where
 -- there is a reason why it is not
 pub record HasFault (dialect : Dialect) (text : List ℕ) : Type 0 where
   pub fault : Fault
-  pub refused : IsRefused dialect text fault
+  pub refused : IsRefusedText dialect text fault
 
 -- it is taken, or it is not
 abbrev pub IsTaken : Dialect → List ℕ → Bool → Type 0

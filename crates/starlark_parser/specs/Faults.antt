@@ -13,7 +13,8 @@ use Rattle.starlark_parser.specs.declared.fault.ParserErrorKind.{ParserErrorKind
 use Rattle.starlark_parser.specs.declared.fault.ParserErrorKind.TheVariants as kind
 use Rattle.starlark_parser.specs.declared.fault.EvalException.{EvalException}
 use Rattle.starlark_parser.specs.declared.fault.EvalException.TheVariants as exception
-use Rattle.starlark_grammar.specs.Language.{Fault, IsRefused, by_lexer, unexpected, unexpected_end, by_rule, place_of}
+use Rattle.starlark_grammar.specs.Language.{Fault, by_lexer, unexpected, unexpected_end, by_rule, place_of}
+use Rattle.starlark_completion.specs.GoesOn.{IsRefusedText}
 
 abbrev pub kind_of : ParserError → ParserErrorKind
 kind_of (error.Lexer e) = kind.Lexer
@@ -57,7 +58,7 @@ Tells o file exception.Memory = Unit {0}
 -- a fault of that reason
 pub record Refuses (dialect : Dialect) (file : File) (w : WithDiagnostic ParserError) : Type 0 where
   pub fault : Fault
-  pub refused : IsRefused dialect file.source fault
+  pub refused : IsRefusedText dialect file.source fault
   pub shown : Shows fault file w
 
 -- What is answered for a text that makes no module: the reason with its place; else it was too long, or memory ran out.

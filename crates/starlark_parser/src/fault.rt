@@ -21,10 +21,11 @@ pub enum ParserError {
     /// The lexer's first fault.
     #[error("{0}")]
     Lexer(LexemeError),
-    /// The first token that cannot stand where it does.
+    /// The first token that cannot stand where it does. The text up to the end of the token before it goes on to a
+    /// program of the grammar, rules aside.
     #[error("unexpected token")]
     Unexpected,
-    /// The text ends where it cannot.
+    /// The text ends where it cannot, though it goes on to a program of the grammar, rules aside.
     #[error("unexpected end of the text")]
     UnexpectedEnd,
     /// A rule that is broken.

@@ -9,6 +9,7 @@ ghost use Rattle.starlark_parser.specs.Modules.{comments_of, dialect_of, file_of
 
 use crate::fault::{EvalException, refusal};
 use crate::module::AstModule;
+use starlark_completion::laws::refused_goes_on;
 use starlark_grammar::text_laws::held_places;
 use starlark_lexer::dialect::Dialect;
 use starlark_lexer::laws::in_order;
@@ -51,6 +52,7 @@ pub(crate) fn module_of(
     let answer = read::<Trees>(alloc, lexer, dialect, &mut told);
     *cost = told.cost;
     held_places();
+    refused_goes_on();
     match answer {
         Ok(statement) => Ok(AstModule {
             codemap,

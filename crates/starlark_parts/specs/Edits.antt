@@ -7,7 +7,8 @@ use Rattle.starlark_place.specs.declared.resolved.ResolvedFileSpan.{ResolvedFile
 use Rattle.starlark_lexer.specs.Joining.{IsClosed}
 use Rattle.starlark_lexer.specs.declared.dialect.Dialect.{Dialect}
 use Rattle.starlark_ast.specs.Tree.{Statement}
-use Rattle.starlark_grammar.specs.Language.{Fault, IsRefused, Language, place_of}
+use Rattle.starlark_grammar.specs.Language.{Fault, Language, place_of}
+use Rattle.starlark_completion.specs.GoesOn.{IsRefusedText}
 use Rattle.starlark_parser.specs.Faults.{reason, reason_of}
 use Rattle.starlark_parser.specs.declared.fault.ParserError.{ParserError}
 use Rattle.starlark_parts.specs.Kept.{Edit, HasIndex, Kept, edited, joined, text_of}
@@ -53,7 +54,7 @@ pub data Refuses (dialect : Dialect) (limit : ℕ) (texts : List (List ℕ)) (ed
   utf8 : {text : List ℕ} → HasIndex texts edit → text_of edit ≡ Some text → (IsUtf8 text → ⊥) → Refuses dialect limit texts edit faults.Utf8
   long : {text : List ℕ} → HasIndex texts edit → text_of edit ≡ Some text → IsUtf8 text → limit < length (joined (edited texts edit)) → Refuses dialect limit texts edit faults.Long
   -- the text is refused by reading
-  parse : {text : List ℕ} {error : ParserError} {place : ResolvedFileSpan} (f : Fault) → IsAddressed limit texts edit text → IsRefused dialect text f → Tells text f error place → Refuses dialect limit texts edit (faults.Parse error place)
+  parse : {text : List ℕ} {error : ParserError} {place : ResolvedFileSpan} (f : Fault) → IsAddressed limit texts edit text → IsRefusedText dialect text f → Tells text f error place → Refuses dialect limit texts edit (faults.Parse error place)
   -- the text is in the language, and not closed
   not_closed : {text : List ℕ} (tree : Statement) → IsAddressed limit texts edit text → Language dialect text tree → (IsClosed text → ⊥) → Refuses dialect limit texts edit faults.Open
   memory : {text : List ℕ} → IsAddressed limit texts edit text → Refuses dialect limit texts edit faults.Memory

@@ -10,7 +10,8 @@ use Rattle.starlark_lexer.specs.Joining.{IsClosed}
 use Rattle.starlark_lexer.specs.declared.dialect.Dialect.{Dialect}
 use Rattle.starlark_ast.specs.Tree.{Statement}
 use Rattle.starlark_ast.specs.View.{stmt_at}
-use Rattle.starlark_grammar.specs.Language.{Fault, IsRefused, Language}
+use Rattle.starlark_grammar.specs.Language.{Fault, Language}
+use Rattle.starlark_completion.specs.GoesOn.{IsRefusedText}
 use Rattle.starlark_parser.specs.Modules.{file_of, tree_of}
 use Rattle.starlark_parser.specs.declared.fault.ParserError.{ParserError}
 use Rattle.starlark_parts.specs.Edits.{Tells}
@@ -65,7 +66,7 @@ Resolves w _ = ⊥
 
 -- why the text alone is no part
 abbrev pub RefusesText : Dialect → List ℕ → PartFault → Type 0
-RefusesText dialect text (faults.Parse error place) = (f : Fault) × IsRefused dialect text f × Tells text f error place
+RefusesText dialect text (faults.Parse error place) = (f : Fault) × IsRefusedText dialect text f × Tells text f error place
 RefusesText dialect text faults.Open = (tree : Statement) × Language dialect text tree × (IsClosed text → ⊥)
 RefusesText dialect text faults.Memory = Unit {0}
 RefusesText dialect text _ = ⊥

@@ -32,7 +32,7 @@ module _ (dialect : Dialect) (limit : ℕ) (texts : List (List ℕ)) (edit : Edi
   not_both none f t (index lacks) = absurd (lacks t.index)
   not_both none f t (utf8 {text} i b bad) = absurd (bad (t.fits text b).utf8)
   not_both none f t (long {text} i b u lt) = absurd (let s = (t.fits text b).short in omega (arith, s, lt))
-  not_both none f t (parse {text} fault a r s) = absurd (let l = t.reads text a.brings in none dialect text l.tree fault l.language r)
+  not_both none f t (parse {text} fault a r s) = absurd (let l = t.reads text a.brings in none dialect text l.tree fault l.language r.refused)
   not_both none f t (not_closed {text} tree a l open_end) = absurd (open_end (t.reads text a.brings).closed)
   not_both none f t (memory a) = refl
 
@@ -76,15 +76,15 @@ module _ (dialect : Dialect) (limit : ℕ) (texts : List (List ℕ)) (edit : Edi
   one_fault one none f g (parse e a r s) (index lacks) = absurd (lacks a.index)
   one_fault one none f g (parse {text} e a r s) (utf8 {text = t2} i b bad) = absurd (read_utf8 text t2 a b bad)
   one_fault one none f g (parse {text} e a r s) (long i b u gt) = absurd (read_short text a gt)
-  one_fault one none f g (parse {text} {error} {place} e a r s) (parse {text = t2} {error = d} {place = q} e2 a2 r2 s2) = inl (same_parse one text t2 error d place q e e2 a a2 r r2 s s2)
+  one_fault one none f g (parse {text} {error} {place} e a r s) (parse {text = t2} {error = d} {place = q} e2 a2 r2 s2) = inl (same_parse one text t2 error d place q e e2 a a2 r.refused r2.refused s s2)
   one_fault one none f g (parse {text} e a r s) (not_closed {text = t2} t a2 l c) =
-      absurd (none dialect t2 t e l (subst (λ z. IsRefused dialect z e) (same_text edit text t2 a.brings a2.brings) r))
+      absurd (none dialect t2 t e l (subst (λ z. IsRefused dialect z e) (same_text edit text t2 a.brings a2.brings) r.refused))
   one_fault one none f g (parse e a r s) (memory a2) = inr (inr refl)
   one_fault one none f g (not_closed t a l c) (index lacks) = absurd (lacks a.index)
   one_fault one none f g (not_closed {text} t a l c) (utf8 {text = t2} i b bad) = absurd (read_utf8 text t2 a b bad)
   one_fault one none f g (not_closed {text} t a l c) (long i b u gt) = absurd (read_short text a gt)
   one_fault one none f g (not_closed {text} t a l c) (parse {text = t2} e a2 r s) =
-      absurd (none dialect text t e l (subst (λ z. IsRefused dialect z e) (same_text edit t2 text a2.brings a.brings) r))
+      absurd (none dialect text t e l (subst (λ z. IsRefused dialect z e) (same_text edit t2 text a2.brings a.brings) r.refused))
   one_fault one none f g (not_closed t a l c) (not_closed t2 a2 l2 c2) = inl refl
   one_fault one none f g (not_closed t a l c) (memory a2) = inr (inr refl)
   one_fault one none f g (memory a) h = inr (inl refl)

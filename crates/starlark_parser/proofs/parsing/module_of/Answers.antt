@@ -12,7 +12,7 @@ pub refusal-requires : goal.refusal-requires
 refusal-requires c = fault_held c.args.dialect.now c.source.result.now _ (fault_of c.in-Err.refused) c.source.ensures.is (λ f w. c.in-Err.ensures.reason c.source.result.now c.in-Err.refused f c.new-lexer.ensures.left (search rules) w) (λ f w. c.held_places.ensures.refusal c.args.dialect.now c.source.result.now f c.source.utf8 w)
 
 pub returns-in-Err-clause-fault : goal.returns-in-Err-clause-fault
-returns-in-Err-clause-fault c = fault_told c.args.dialect.now _ c.in-Ok.codemap c.source.result.now (fault_of c.in-Err.refused) c.refusal.result (search rules) c.source.ensures.is c.refusal.ensures (λ f w. c.in-Err.ensures.reason c.source.result.now c.in-Err.refused f c.new-lexer.ensures.left (search rules) w)
+returns-in-Err-clause-fault c = fault_told c.args.dialect.now _ c.in-Ok.codemap c.source.result.now (fault_of c.in-Err.refused) c.refusal.result (search rules) c.source.ensures.is c.refusal.ensures (λ f w. c.refused_goes_on.ensures c.args.dialect.now c.source.result.now f (c.in-Err.ensures.reason c.source.result.now c.in-Err.refused f c.new-lexer.ensures.left (search rules) w))
 
 pub returns-in-Err-clause-cost : goal.returns-in-Err-clause-cost
 returns-in-Err-clause-cost c = refused_cost _ (fault_of c.in-Err.refused) _ c.refusal.result c.refusal.ensures (c.source.ensures.is ∙ ap (λ m. m.source) c.in-Ok.ensures.made) c.new-lexer.ensures.left (search rules) c.in_order.ensures.few c.in-Err.ensures.some c.in-Err.ensures.most

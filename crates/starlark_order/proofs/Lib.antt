@@ -1,0 +1,7 @@
+pub mod Firm
+pub mod First
+pub mod Tokens
+pub mod Expressions
+pub mod Statements
+pub mod Places
+pub mod Outlines

@@ -1,0 +1,5 @@
+use Rattle.starlark_order.proofs.Outlines.{outline_ordered}
+use Rattle.starlark_order.proofs.laws.ordered_outline.Goals as goal
+
+pub returns : goal.returns
+returns c = outline_ordered c.in_order.ensures.order c.firm_tokens.ensures.bytes c.firm_tokens.ensures.first

@@ -1,0 +1,4 @@
+//! The order of outlines.
+#![tactic(auto)]
+
+pub mod laws;
