@@ -13,3 +13,4 @@ pub mod Reading
 pub mod Spending
 pub mod Iterating
 pub mod Counting
+pub mod Scratch

@@ -18,6 +18,11 @@ pub record AreItems (text : List ℕ) (tree : Statement) (items : List OutlineIt
   pub words : map (λ x. Some x.word) items ≡ map word_of (top_level tree)
   pub begins : map (λ x. x.begin) items ≡ map (beginning text) (top_level tree)
 
+-- The text is in the language.
+pub record IsInLanguage (dialect : Dialect) (text : List ℕ) : Type 0 where
+  pub tree : Statement
+  pub language : Language dialect text tree
+
 -- The items are the outline of the text: the text is in the language, and they are those of its tree.
 pub record IsOutline (dialect : Dialect) (text : List ℕ) (items : List OutlineItem) : Type 0 where
   pub tree : Statement

@@ -1,6 +1,6 @@
 //! One part, which is read alone.
 
-ghost use Rattle.std.specs.Prelude.{◌≡◌, ◌≤◌, ◌↔◌, IfOk, IfErr, IsSome, IsTrue, length};
+ghost use Rattle.std.specs.Prelude.{◌≡◌, ◌≤◌, ◌↔◌, IfOk, IfErr, IsSome, IsTrue, length, string_bytes};
 ghost use Rattle.starlark_place.specs.Place.{line_feeds};
 ghost use Rattle.starlark_place.specs.Diagnostic.{span_of};
 ghost use Rattle.starlark_lexer.specs.Joining.{IsClosed};
@@ -8,7 +8,7 @@ ghost use Rattle.starlark_parser.specs.Modules.{file_of, tree_of};
 ghost use Rattle.starlark_ast.specs.View.{stmt_at};
 ghost use Rattle.starlark_parts.specs.Flat.{AreWorded, IsFlat};
 ghost use Rattle.starlark_parts.specs.Held.{IsPart, IsRead, MissesEnd, RefusesBytes, RefusesText, Resolves, items_of, statements_of, text_of};
-ghost use Rattle.starlark_parts.specs.Outlines.{AreItems};
+ghost use Rattle.starlark_parts.specs.Outlines.{AreItems, IsInLanguage, IsOutline};
 ghost use Rattle.starlark_parts.specs.Spent.{SpentOn, nothing_read};
 ghost use Rattle.starlark_parts.specs.Walk.{left};
 
@@ -18,6 +18,7 @@ use crate::laws::good_trees;
 use crate::top::TopLevel;
 use crate::word::{OutlineItem, Word};
 use starlark_ast::ast::AstStmt;
+use starlark_grammar::text_laws::one_refusal;
 use starlark_lexer::dialect::Dialect;
 use starlark_parser::cost::Cost;
 use starlark_parser::fault::{EvalException, ParserError};
@@ -108,6 +109,30 @@ fn outline_of(alloc: Global, text: &[u8], tree: &AstStmt) -> Result<Vec<OutlineI
         })?;
     }
     Ok(items)
+}
+
+/// The outline of a text that is in the language, by reading it. Want of memory is the only refusal.
+pub(crate) fn read_outline(
+    alloc: Global,
+    dialect: &Dialect,
+    text: String,
+) -> Result<Vec<OutlineItem>, AllocError>
+    requires short { length (string_bytes text) ≤ 4294967295 }
+    requires language { IsInLanguage dialect.now (string_bytes text) }
+    ensures { IfOk result (λ v. IsOutline dialect.now (string_bytes text) v.items) }
+{
+    good_trees();
+    one_refusal();
+    match AstModule::parse(alloc, CodeMapId::EMPTY, "part", text, dialect) {
+        Ok(module) => outline_of(
+            alloc,
+            module.codemap().source().as_bytes(),
+            module.statement(),
+        ),
+        Err(EvalException::TooLong) => unreachable!(),
+        Err(EvalException::Fault(_)) => unreachable!(),
+        Err(EvalException::Memory) => Err(AllocError),
+    }
 }
 
 // the fault of a reading, by the text's own lines and columns

@@ -11,7 +11,7 @@ use crate::fault::PartFault;
 use crate::items::Items;
 use crate::laws::joined_outline;
 use crate::list;
-use crate::part::{Part, read_part};
+use crate::part::{Part, read_outline, read_part};
 use crate::statements::Statements;
 use crate::word::OutlineItem;
 use starlark_lexer::dialect::Dialect;
@@ -196,6 +196,16 @@ impl Parts {
         ensures { IfOk result (λ v. IsOutline self.now.dialect (joined self.now.texts) v.items) }
     {
         self.items().collect(self.alloc)
+    }
+
+    /// The outline of the joined text, by reading that text as one: what `outline` gives. Want of memory is the only
+    /// refusal.
+    pub fn from_scratch(&self) -> Result<Vec<OutlineItem>, AllocError>
+        ensures { IfOk result (λ v. IsOutline self.now.dialect (joined self.now.texts) v.items) }
+    {
+        joined_outline();
+        let text = self.text()?;
+        read_outline(self.alloc, &self.dialect, text)
     }
 
     /// The joined text. Want of memory is the only refusal.

@@ -16,11 +16,16 @@ fn shown(item: &OutlineItem) -> Shown {
     (item.word, item.begin.line, item.begin.column)
 }
 
-/// The outline, its items and the statements are these.
+/// The outline, the same from scratch, its items and the statements are these.
 fn is_outline(rt: &impl Abort, parts: &Parts, wanted: &[Shown]) -> Result<(), AllocError> {
     let outline = parts.outline()?;
     assert_eq!(rt; outline.len(), wanted.len());
     assert!(rt; parts.items().len() == wanted.len() as u128);
+    let again = parts.from_scratch()?;
+    assert_eq!(rt; again.len(), wanted.len());
+    for (item, same) in outline.iter().zip(&again) {
+        assert!(rt; *item == *same);
+    }
     let mut items = parts.items();
     let mut statements = parts.statements();
     for (item, want) in outline.iter().zip(wanted) {
