@@ -8,9 +8,10 @@ use Rattle.starlark_grammar.specs.Frames.{inside, State, wants}
 use Rattle.starlark_grammar.specs.Machine.{step}
 use Rattle.starlark_grammar.specs.Runs.{initial}
 use Rattle.starlark_grammar.specs.Language.{IsViable}
+use Rattle.starlark_cutting.specs.Cutting.{indent_item}
 use Rattle.starlark_cutting.specs.Opened.{Nest, within_text, Goes_to}
 use Rattle.starlark_completion.specs.Shapes.{depth, nest, within, stage}
-use Rattle.starlark_completion.specs.Ending.{no_token, another, last_of, indent_item}
+use Rattle.starlark_completion.specs.Ending.{no_token, another, last_of}
 use Rattle.starlark_completion.specs.Closing.{CanClose}
 use Rattle.starlark_completion.specs.Laws.{Laws}
 use Rattle.starlark_completion.proofs.Running.{Path, no_step, a_step, reached}

@@ -13,9 +13,10 @@ use Rattle.starlark_grammar.specs.Machine.{step}
 use Rattle.starlark_grammar.specs.Runs.{initial}
 use Rattle.starlark_grammar.specs.Completion.{spelled, completion}
 use Rattle.starlark_grammar.specs.Language.{bare, IsViable}
+use Rattle.starlark_cutting.specs.Cutting.{indent_item}
 use Rattle.starlark_cutting.specs.Opened.{outside, Way, Put, put_lexemes}
 use Rattle.starlark_completion.specs.Shapes.{depth, nest, Stage, at_beginning, in_block, before_block, stage, is_within}
-use Rattle.starlark_completion.specs.Ending.{Last, no_token, a_line_end, last_of, goes_on_line, indent_item, copies, Goes, Ending, CanEnd, IsAtLine}
+use Rattle.starlark_completion.specs.Ending.{no_token, last_of, goes_on_line, copies, Goes, Ending, CanEnd, IsAtLine}
 use Rattle.starlark_completion.specs.Ending as ending
 use Rattle.starlark_completion.specs.Laws.{Laws}
 use Rattle.starlark_completion.proofs.Counting.{even}

@@ -3,12 +3,14 @@ use Rattle.std.proofs.Common.{ℕ, ◌≡◌, ◌<◌, ◌+◌, ◌⊎◌, ◌�
 use Rattle.std.proofs.lemmas.Bool.{false≢true}
 use Rattle.std.proofs.lemmas.List.{map-append}
 use Rattle.std.proofs.lemmas.List.Sums.{sum_by-append}
+use Rattle.std.proofs.lemmas.Str.Ascii.{IsAscii-nil}
 use Rattle.starlark_lexer.specs.Items.{Lexeme, newline, indent, dedent, dedents, comment, keyword_pass, fstring_text, fstring_expr_start, Item, item, Lexed}
 use Rattle.starlark_lexer.specs.Lex.{Lex, start}
 use Rattle.starlark_lexer.specs.Joining.{is_indent, is_dedent, dedent_item, IsEven}
 use Rattle.starlark_lexer.specs.declared.dialect.Dialect.{Dialect}
 use Rattle.starlark_grammar.specs.Grammar.{Derives}
 use Rattle.starlark_grammar.specs.Language.{bare, is_comment, last_end, without_comments, IsViable}
+use Rattle.starlark_grammar.proofs.Uncommented.{without_append, without_dedents}
 use Rattle.starlark_cutting.specs.Cutting.{blanks_of, indent_item, inner, IsClosedBefore, IsContinued, IsCutAt, IsEnded}
 use Rattle.starlark_cutting.specs.Spelling.{Plain, a_name, an_else, an_in, a_pass, a_comma, a_colon, an_equal, an_opening, a_round, a_square, a_curly, a_string, lexeme_of}
 use Rattle.starlark_cutting.specs.Opened.{Nest, outside, in_field, in_text, Way, Put, plain, a_letter, field_end, string_end, put_lexeme, put_lexemes, is_text}
@@ -16,9 +18,9 @@ use Rattle.starlark_completion.specs.Ending.{Last, no_token, a_line_end, a_deden
 use Rattle.starlark_completion.specs.Laws.{Laws}
 use Rattle.starlark_completion.specs.Cuts.{Cuts}
 use Rattle.starlark_completion.specs.GoesOn.{CanGoOn}
-use Rattle.starlark_completion.proofs.Tokens.{without_append, without_dedents, kept, tokens_bare, even_with}
+use Rattle.starlark_completion.proofs.Tokens.{kept, tokens_bare, even_with}
 use Rattle.starlark_completion.proofs.Cutting.{snoc, last_there, end_there, parted, cut_there, with_comments, way_parts}
-use Rattle.starlark_completion.proofs.Going.{goes, goes_behind, by_nothing, by_lines, by_block, by_deeper, by_words}
+use Rattle.starlark_completion.proofs.Going.{blanks_ascii, goes, goes_behind, by_nothing, by_lines, by_block, by_deeper, by_words}
 use Rattle.starlark_completion.proofs.Ended.{before_dedent, viable_ends}
 use Rattle.starlark_completion.proofs.Closing.{line_closes, text_closes}
 
@@ -100,7 +102,7 @@ module _ {dialect : Dialect} {u v : List ℕ} {before : List Item} {z : Item} {b
   in_line laws cuts k t =
       let c = line_closes laws dialect (w ++ z ∷ []) at.viable (kind_there another k) in
       let f = cuts.line u v before z behind c.nest c.puts at.cut (is_inner z.lexeme at.no_comment k) t (ways c.nest c.way) c.closes in
-      by_words u (before ++ z ∷ []) (w ++ z ∷ []) c.depth same_front c.blocks f.bytes (put_lexemes c.puts) (λ put. all_kept put (put_lexemes c.puts) (puts_kept c.puts)) c.goes f.finished
+      by_words u (before ++ z ∷ []) (w ++ z ∷ []) c.depth same_front c.blocks f.bytes (put_lexemes c.puts) f.ascii (λ put. all_kept put (put_lexemes c.puts) (puts_kept c.puts)) c.goes f.finished
 
   -- behind a piece of text a field begins
   behind_text : Laws → Cuts → (t : List ℕ) → z.lexeme ≡ fstring_text t → CanGoOn u
@@ -115,13 +117,13 @@ module _ {dialect : Dialect} {u v : List ℕ} {before : List Item} {z : Item} {b
       let f = cuts.text u v before z behind t g.0 c.puts at.cut q (ways (in_text g.0) (subst (λ m. Way (outside 0) (bare all) m) g.1.0 p.1.0)) (subst (λ m. Way m (put_lexemes c.puts) (outside 0)) n c.closes) in
       let i : count_by indent_item (all ++ e ∷ []) ≡ count_by indent_item all + 0 = sum_by-append (λ (y : Item). cond (indent_item y) 1 0) all (e ∷ []) in
       let d : count_by dedent_item (all ++ e ∷ []) ≡ count_by dedent_item all + 0 = sum_by-append (λ (y : Item). cond (dedent_item y) 1 0) all (e ∷ []) in
-      by_words u (before ++ z ∷ []) all c.depth same_front (omega (arith, i, d, c.blocks)) f.bytes (fstring_expr_start ∷ put_lexemes c.puts) (λ put. all_kept put (fstring_expr_start ∷ put_lexemes c.puts) (refl, puts_kept c.puts))
+      by_words u (before ++ z ∷ []) all c.depth same_front (omega (arith, i, d, c.blocks)) f.bytes (fstring_expr_start ∷ put_lexemes c.puts) f.ascii (λ put. all_kept put (fstring_expr_start ∷ put_lexemes c.puts) (refl, puts_kept c.puts))
       (λ n. subst Goes (ap (λ xs. xs ++ (put_lexemes c.puts ++ newline ∷ (copies n newline ++ copies c.depth dedent))) apart ∙ append_assoc (bare all) (fstring_expr_start ∷ []) (put_lexemes c.puts ++ newline ∷ (copies n newline ++ copies c.depth dedent))) (c.goes n)) f.finished
 
   -- behind a line end that the text has
   behind_line : Cuts → z.lexeme ≡ newline → z.end ≡ z.begin + 1 → (depth : ℕ) → count_by indent_item (w ++ z ∷ []) ≡ depth + count_by dedent_item (w ++ z ∷ []) → Ending (w ++ z ∷ []) depth → CanGoOn u
   behind_line cuts nl real depth blocks (at_line q e g) = by_lines u (before ++ z ∷ []) (w ++ z ∷ []) depth same_front blocks g (cuts.closed_line u v before z behind at.cut nl real)
-  behind_line cuts nl real depth blocks (before_block q e g) = let d = cuts.deepened u v before z behind at.cut nl real in by_deeper u (before ++ z ∷ []) (w ++ z ∷ []) (suc depth) same_front (omega (arith, blocks)) g (blanks_of d.spaces) d.indented
+  behind_line cuts nl real depth blocks (before_block q e g) = let d = cuts.deepened u v before z behind at.cut nl real in by_deeper u (before ++ z ∷ []) (w ++ z ∷ []) (suc depth) same_front (omega (arith, blocks)) g (blanks_of d.spaces) (blanks_ascii d.spaces) d.indented
   behind_line cuts nl real depth blocks (in_block q e g) = by_block u (before ++ z ∷ []) (w ++ z ∷ []) depth same_front blocks g (cuts.filled u v before z behind at.cut nl real)
 
   -- the whole text, where nothing stands behind but Dedents
@@ -145,11 +147,11 @@ module _ {dialect : Dialect} {u v : List ℕ} {before : List Item} {z : Item} {b
       let k = continued cuts nl none e in
       let same : bare (without_comments (k.before ++ k.z ∷ [])) ≡ bare (w ++ z ∷ []) = sym (tokens_bare (k.before ++ k.z ∷ [])) ∙ k.same ∙ tokens_bare (before ++ z ∷ []) ∙ same_front in
       let d = cuts.deepened (u ++ k.more) [] k.before k.z k.behind k.cut k.line_end k.real in
-      goes_behind u k.more (by_deeper (u ++ k.more) (k.before ++ k.z ∷ []) (w ++ z ∷ []) (suc depth) same (omega (arith, blocks)) g (blanks_of d.spaces) d.indented)
+      goes_behind u k.more k.ascii (by_deeper (u ++ k.more) (k.before ++ k.z ∷ []) (w ++ z ∷ []) (suc depth) same (omega (arith, blocks)) g (blanks_of d.spaces) (blanks_ascii d.spaces) d.indented)
   behind_end cuts nl none depth blocks (in_block q e g) =
       let k = continued cuts nl none e in
       let same : bare (without_comments (k.before ++ k.z ∷ [])) ≡ bare (w ++ z ∷ []) = sym (tokens_bare (k.before ++ k.z ∷ [])) ∙ k.same ∙ tokens_bare (before ++ z ∷ []) ∙ same_front in
-      goes_behind u k.more (by_block (u ++ k.more) (k.before ++ k.z ∷ []) (w ++ z ∷ []) depth same blocks g (cuts.filled (u ++ k.more) [] k.before k.z k.behind k.cut k.line_end k.real))
+      goes_behind u k.more k.ascii (by_block (u ++ k.more) (k.before ++ k.z ∷ []) (w ++ z ∷ []) depth same blocks g (cuts.filled (u ++ k.more) [] k.before k.z k.behind k.cut k.line_end k.real))
 
   line_end : Laws → Cuts → z.lexeme ≡ newline → CanGoOn u
   line_end laws cuts nl =
@@ -169,7 +171,7 @@ module _ {dialect : Dialect} {u v : List ℕ} {before : List Item} {z : Item} {b
       let b : count_by dedent_item (w ++ z ∷ []) ≡ count_by dedent_item w + 0 = sum_by-append (λ (y : Item). cond (dedent_item y) 1 0) w (z ∷ []) ∙ ap (λ x. count_by dedent_item w + (0 + cond (is_dedent x) 1 0)) i in
       by_deeper u before w depth (ap bare at.front) (omega (arith, a, b, blocks))
       (λ n. subst Goes (ap (λ xs. xs ++ (keyword_pass ∷ newline ∷ (copies n newline ++ copies depth dedent))) apart ∙ append_assoc (bare w) (indent ∷ []) (keyword_pass ∷ newline ∷ (copies n newline ++ copies depth dedent))) (g n))
-      (32 ∷ []) (cuts.indented u v before z behind at.cut i)
+      (32 ∷ []) (blanks_ascii 1) (cuts.indented u v before z behind at.cut i)
 
   -- behind a Dedent
   no_bytes : (t : List ℕ) → (t ≡ []) ⊎ (0 < length t)
@@ -219,7 +221,7 @@ behind_none laws cuts dialect i =
     by : (depth : ℕ) → 0 ≡ depth + 0 → Ending [] depth → CanGoOn []
     by depth blocks (at_line q e g) =
         let zero_depth : depth ≡ 0 = omega (arith, blocks) in
-        goes [] [] (item 0 newline 0 ∷ []) (newline ∷ []) cuts.empty refl (subst (λ n. Goes (newline ∷ copies n dedent)) zero_depth (g 1))
+        goes [] [] (item 0 newline 0 ∷ []) (newline ∷ []) IsAscii-nil cuts.empty refl (subst (λ n. Goes (newline ∷ copies n dedent)) zero_depth (g 1))
     by depth blocks (before_block q e g) = let h : no_token ≡ a_line_end = q in absurd (cc)
     by depth blocks (in_block q e g) = absurd (false≢true q)
 

@@ -1,23 +1,11 @@
 -- Comments left out: of lists one behind the other, and what is counted without them.
-use Rattle.std.proofs.Common.{ℕ, ◌≡◌, ◌+◌, ◌∷◌, ◌++◌, ◌∙◌, [], zero, suc, List, Bool, true, false, cond, refl, ap, sym, arith, count_by}
+use Rattle.std.proofs.Common.{ℕ, ◌≡◌, ◌+◌, ◌∷◌, ◌∙◌, [], zero, suc, List, Bool, true, false, cond, refl, ap, sym, arith, count_by}
 use Rattle.std.proofs.lemmas.Bool.{false≢true}
 use Rattle.std.proofs.lemmas.List.Sums.{sum_by-cons}
-use Rattle.starlark_lexer.specs.Items.{Lexeme, comment, indent, dedent, dedents, fstring_start, fstring_end, opening_round, opening_square, opening_curly, closing_round, closing_square, closing_curly, is_opening, is_closing, Item, item}
+use Rattle.starlark_lexer.specs.Items.{Lexeme, comment, indent, dedent, fstring_start, fstring_end, opening_round, opening_square, opening_curly, closing_round, closing_square, closing_curly, is_opening, is_closing, Item, item}
 use Rattle.starlark_lexer.specs.Joining.{is_indent, is_dedent, dedent_item, nested, outside, open_behind, IsEven}
 use Rattle.starlark_grammar.specs.Language.{bare, without_comments, is_comment}
 use Rattle.starlark_cutting.specs.Cutting.{indent_item, tokens_of}
-
-pub without_append : (xs ys : List Item) → without_comments (xs ++ ys) ≡ without_comments xs ++ without_comments ys
-without_append [] ys = refl
-without_append (x ∷ xs) ys = by (is_comment x.lexeme) (without_append xs ys)
-  where
-    by : (b : Bool) → without_comments (xs ++ ys) ≡ without_comments xs ++ without_comments ys → cond b (without_comments (xs ++ ys)) (x ∷ without_comments (xs ++ ys)) ≡ cond b (without_comments xs) (x ∷ without_comments xs) ++ without_comments ys
-    by true h = h
-    by false h = ap (λ zs. x ∷ zs) h
-
-pub without_dedents : (p count : ℕ) → without_comments (dedents p count) ≡ dedents p count
-without_dedents p zero = refl
-without_dedents p (suc count) = ap (λ zs. item p dedent p ∷ zs) (without_dedents p count)
 
 -- one that is no comment
 pub kept : (x : Item) → is_comment x.lexeme ≡ false → (xs : List Item) → without_comments (x ∷ xs) ≡ x ∷ without_comments xs

@@ -6,10 +6,11 @@ use Rattle.starlark_lexer.specs.Joining.{is_indent, is_dedent, dedent_item}
 use Rattle.starlark_grammar.specs.Frames.{State}
 use Rattle.starlark_grammar.specs.Machine.{step}
 use Rattle.starlark_grammar.specs.Language.{bare}
+use Rattle.starlark_cutting.specs.Cutting.{indent_item}
 use Rattle.starlark_cutting.specs.Opened.{Goes_to, Way, within_text}
 use Rattle.starlark_completion.specs.Shapes.{nest, depth, Stage, within, at_beginning, in_block, before_block, stage, is_within}
 use Rattle.starlark_completion.specs.Moves.{Moves, Turned, Deeper, Staged}
-use Rattle.starlark_completion.specs.Ending.{Last, no_token, a_line_end, a_dedent, an_indent, another, kind_of, last_of, goes_on_line, at_beginning_of_line, begins_block, indent_item}
+use Rattle.starlark_completion.specs.Ending.{Last, no_token, a_line_end, a_dedent, an_indent, another, kind_of, last_of, goes_on_line, at_beginning_of_line, begins_block}
 use Rattle.starlark_completion.proofs.Moving.{move_moves}
 use Rattle.starlark_completion.proofs.Nests.{InPiece, in_piece, state_text, turns_outside, turns_inside}
 use Rattle.starlark_completion.proofs.Running.{Path, no_step, a_step}

@@ -3,8 +3,9 @@ use Rattle.std.specs.Prelude.{ℕ, ◌≡◌, ◌+◌, List, ◌∷◌, ◌++◌
 use Rattle.starlark_lexer.specs.Items.{newline, dedent, Item}
 use Rattle.starlark_lexer.specs.Joining.{dedent_item}
 use Rattle.starlark_grammar.specs.Language.{bare}
+use Rattle.starlark_cutting.specs.Cutting.{indent_item}
 use Rattle.starlark_cutting.specs.Opened.{Nest, outside, Way, Put, put_lexemes}
-use Rattle.starlark_completion.specs.Ending.{indent_item, copies, Goes}
+use Rattle.starlark_completion.specs.Ending.{copies, Goes}
 
 -- Tokens within a line go on to a program: what is put behind them closes what is open, and a line end and as many Dedents as blocks are open end it.
 pub record CanClose (w : List Item) : Type 0 where

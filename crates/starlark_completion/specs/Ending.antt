@@ -1,10 +1,11 @@
 -- How tokens go on to a program.
 use Rattle.std.specs.Prelude.{ℕ, ◌≡◌, ◌+◌, List, ◌∷◌, ◌++◌, [], zero, suc, Bool, true, false, count_by}
 use Rattle.starlark_lexer.specs.Items.{Lexeme, newline, indent, dedent, keyword_pass, Item}
-use Rattle.starlark_lexer.specs.Joining.{is_indent, dedent_item, IsEven}
+use Rattle.starlark_lexer.specs.Joining.{dedent_item, IsEven}
 use Rattle.starlark_ast.specs.Tree.{Statement}
 use Rattle.starlark_grammar.specs.Grammar.{Derives}
 use Rattle.starlark_grammar.specs.Language.{bare}
+use Rattle.starlark_cutting.specs.Cutting.{indent_item}
 
 -- what stands last
 pub data Last : Type 0 where
@@ -37,9 +38,6 @@ abbrev pub begins_block : Last → Bool
 begins_block a_line_end = true
 begins_block an_indent = true
 begins_block l = false
-
-abbrev pub indent_item : Item → Bool
-indent_item x = is_indent x.lexeme
 
 -- so many of them
 abbrev pub copies : ℕ → Lexeme → List Lexeme

@@ -1,5 +1,5 @@
 -- How a text goes on, and what a refusal for syntax leaves: the section "Refusals" of docs/LANGUAGE.md.
-use Rattle.std.specs.Prelude.{ℕ, ◌≡◌, ◌++◌, List, None, take}
+use Rattle.std.specs.Prelude.{ℕ, ◌≡◌, ◌++◌, List, None, take, IsAscii}
 use Rattle.starlark_lexer.specs.Items.{Lexed}
 use Rattle.starlark_lexer.specs.Lex.{Lex, start}
 use Rattle.starlark_lexer.specs.declared.dialect.Dialect.{Dialect}
@@ -10,6 +10,8 @@ use Rattle.starlark_grammar.specs.Language.{Fault, IsRefusal, IsRefused, the_lex
 -- Some text behind it makes a text that is cut without fault into tokens of Module, rules and length aside.
 pub record CanGoOn (text : List ℕ) : Type 0 where
   pub more : List ℕ
+  -- each of its bytes is ASCII
+  pub ascii : IsAscii more
   pub lexed : Lexed
   pub lexes : Lex start (text ++ more) lexed
   pub no_fault : lexed.fault ≡ None

@@ -1,8 +1,9 @@
 -- A text that is cut off behind its end goes on with a line feed or two, the last of which is a line end.
-use Rattle.std.proofs.Common.{◌≡◌, ◌<◌, ℕ, ◌+◌, true, false, List, [], ◌∷◌, ◌++◌, length, take, drop, refl, ap, sym, ◌∙◌, arith, suc, inl, inr, subst, append_assoc, length-append, length-drop}
+use Rattle.std.proofs.Common.{◌≡◌, ◌<◌, ℕ, ◌+◌, true, false, List, [], ◌∷◌, ◌++◌, length, take, drop, refl, ap, sym, ◌∙◌, arith, suc, inl, inr, subst, append_assoc, length-append, length-drop, IsAscii}
 use Rattle.std.proofs.Math.Seq.{drop-append_seam}
 use Rattle.std.proofs.lemmas.Bool.{cases_lt, false≢true}
 use Rattle.std.proofs.lemmas.List.{append-nil, drop-append-le}
+use Rattle.std.proofs.lemmas.Str.Ascii.{IsAscii-nil, IsAscii-push}
 use Rattle.starlark_lexer.specs.Items.{newline, comment, is_opening, is_closing, Item, item, Lexed, with_items, opening_item, closing_item}
 use Rattle.starlark_lexer.specs.Classes.{leading, line_len, line_end}
 use Rattle.starlark_lexer.specs.Widths.{Closes}
@@ -39,6 +40,9 @@ joint_items xs ys m = λ i. record { items = sym (append_assoc xs ys m.items) i;
 no_cr : (c : List ℕ) → 35 ∷ c ≡ 13 ∷ [] → ⊥
 no_cr c e = let s : ◌≡◌ {A = ℕ} 35 13 = cc in omega (arith, s)
 
+line_feed : IsAscii (10 ∷ [])
+line_feed = IsAscii-push [] 10 IsAscii-nil (omega arith)
+
 -- ---- where a line begins
 
 module _ (u : List ℕ) (z : Item) (is_end : z.lexeme ≡ newline) where
@@ -49,13 +53,13 @@ module _ (u : List ℕ) (z : Item) (is_end : z.lexeme ≡ newline) where
       let d = feed_line left q s.0 n (omega (arith, ap length is, length-append w left, b.place)) b.begins.fresh s.1 blank in
       let here : w ++ (left ++ 10 ∷ []) ≡ u ++ 10 ∷ [] = sym (append_assoc w left (10 ∷ [])) ∙ ap (λ y. y ++ 10 ∷ []) (sym is) in
       let a : Item = item n newline (n + 1) in
-      continued u (10 ∷ []) xs (xs ++ z ∷ []) n (length s.0) (subst (λ t. Lex start t (with_items xs (fed_lexed n (length s.0)))) here (b.lex (left ++ 10 ∷ []) _ d)) (omega (arith, length-append u (10 ∷ [])))
+      continued u (10 ∷ []) xs (xs ++ z ∷ []) n (length s.0) line_feed (subst (λ t. Lex start t (with_items xs (fed_lexed n (length s.0)))) here (b.lex (left ++ 10 ∷ []) _ d)) (omega (arith, length-append u (10 ∷ [])))
       (tokens_append xs (a ∷ []) ∙ ap (λ y. tokens_of xs ++ y) (tokens_line a refl ∙ sym (tokens_line z is_end)) ∙ sym (tokens_append xs (z ∷ [])))
 
   -- behind a comment that ends with the text
-  remark_continued : (w bytes c o : List ℕ) (xs ys : List Item) (p : Past) → Begun w xs p → u ≡ w ++ bytes → drop (leading bytes) bytes ≡ 35 ∷ c → tokens_of ys ≡ [] → whole_len (c ++ (o ++ 10 ∷ [])) ≡ length c + length o
+  remark_continued : (w bytes c o : List ℕ) (xs ys : List Item) (p : Past) → IsAscii o → Begun w xs p → u ≡ w ++ bytes → drop (leading bytes) bytes ≡ 35 ∷ c → tokens_of ys ≡ [] → whole_len (c ++ (o ++ 10 ∷ [])) ≡ length c + length o
       → IsContinued u ((xs ++ ys) ++ z ∷ [])
-  remark_continued w bytes c o xs ys p b is e none whole =
+  remark_continued w bytes c o xs ys p ascii b is e none whole =
       let more = o ++ 10 ∷ [] in
       let rest = bytes ++ more in
       let t = c ++ more in
@@ -76,7 +80,7 @@ module _ (u : List ℕ) (z : Item) (is_end : z.lexeme ≡ newline) where
       let d : Lex q (10 ∷ []) m = feed_line [] q s.0 n (omega (arith, all, b.place, ap length is, length-append w bytes, length-append bytes o)) refl s.1 refl in
       let g = b.lex rest _ (goes_on p rest (it ∷ []) q (10 ∷ []) m step d) in
       let here : w ++ rest ≡ u ++ more = sym (append_assoc w bytes more) ∙ ap (λ y. y ++ more) (sym is) in
-      continued u more (xs ++ it ∷ []) ((xs ++ ys) ++ z ∷ []) n (length s.0) (subst (Lex start (u ++ more)) (joint_items xs (it ∷ []) m) (subst (λ y. Lex start y (with_items xs (with_items (it ∷ []) m))) here g))
+      continued u more (xs ++ it ∷ []) ((xs ++ ys) ++ z ∷ []) n (length s.0) (IsAscii-push o 10 ascii (omega arith)) (subst (Lex start (u ++ more)) (joint_items xs (it ∷ []) m) (subst (λ y. Lex start y (with_items xs (with_items (it ∷ []) m))) here g))
       (omega (arith, length-append u more, length-append o (10 ∷ [])))
       (same_tokens (it ∷ []) ys xs (item n newline (n + 1)) z (sym none) refl is_end)
 
@@ -96,10 +100,10 @@ module _ (u : List ℕ) (z : Item) (is_end : z.lexeme ≡ newline) where
       elim (cases_lt (line_len c) (length c)) [
         | inl lt ↦
             let kept = whole_kept c (10 ∷ []) lt (omega (arith, whole)) in
-            remark_continued w.0 s.bytes c [] s.front s.items s.past b w.1.0 e none (omega (arith, kept, whole))
+            remark_continued w.0 s.bytes c [] s.front s.items s.past IsAscii-nil b w.1.0 e none (omega (arith, kept, whole))
         | inr ge ↦
             let fed_all = fed_whole c (10 ∷ []) (fed c (10 ∷ []) (omega (arith, ge, whole))) in
-            remark_continued w.0 s.bytes c (10 ∷ []) s.front s.items s.past b w.1.0 e none (omega (arith, fed_all))
+            remark_continued w.0 s.bytes c (10 ∷ []) s.front s.items s.past line_feed b w.1.0 e none (omega (arith, fed_all))
       ]
 
   at_line : (xs : List Item) (q : Past) (left : List ℕ) → Reach start u xs q left → q.fresh ≡ true → leading left ≡ length left → IsContinued u (xs ++ z ∷ [])
@@ -129,7 +133,7 @@ module _ (u : List ℕ) (z : Item) (is_end : z.lexeme ≡ newline) where
       let d : Lex t.behind o m = feed_within t.left t.behind s.0 n (omega (arith, k.place, far.1.0, le, ap length k.is, length-drop k.k t.bytes)) (record { fresh = t.fresh; mode = t.mode }) t.even s.1 t.blank in
       let g = f.1.1.lex o stops _ (goes_on t.past (w ++ o) t.items t.behind o m (step o stops) d) in
       let here : f.0 ++ o ≡ u ++ 10 ∷ [] = sym (append_assoc f.0 t.left (10 ∷ [])) ∙ ap (λ y. y ++ 10 ∷ []) (sym f.1.0) in
-      continued u (10 ∷ []) (t.front ++ t.items) ((t.front ++ t.items) ++ z ∷ []) n (length s.0)
+      continued u (10 ∷ []) (t.front ++ t.items) ((t.front ++ t.items) ++ z ∷ []) n (length s.0) line_feed
       (subst (Lex start (u ++ 10 ∷ [])) (joint_items t.front t.items m) (subst (λ y. Lex start y (with_items t.front (with_items t.items m))) here g))
       (omega (arith, length-append u (10 ∷ [])))
       (same_tokens t.items t.items t.front (item n newline (n + 1)) z refl refl is_end)
@@ -155,7 +159,7 @@ module _ (u : List ℕ) (z : Item) (is_end : z.lexeme ≡ newline) where
       (omega (arith, even, counted opening_item p.mode it p.items mode, counted closing_item p.mode it p.items mode)) s.1 g.blank in
       let h = f.1.1.lex o refl _ (goes_on p (35 ∷ c ++ o) (it ∷ []) q (g.cr ++ o) m step d) in
       let here : f.0 ++ o ≡ u ++ o = ap (λ y. y ++ o) (sym (append-nil f.0) ∙ sym f.1.0) in
-      continued u o (t.front ++ it ∷ []) ((t.front ++ t.items) ++ z ∷ []) n (length s.0)
+      continued u o (t.front ++ it ∷ []) ((t.front ++ t.items) ++ z ∷ []) n (length s.0) line_feed
       (subst (Lex start (u ++ o)) (joint_items t.front (it ∷ []) m) (subst (λ y. Lex start y (with_items t.front (with_items (it ∷ []) m))) here h))
       (omega (arith, length-append u o))
       (same_tokens (it ∷ []) t.items t.front (item n newline (n + 1)) z (sym none) refl is_end)

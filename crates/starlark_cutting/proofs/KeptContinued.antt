@@ -1,5 +1,5 @@
 -- A line feed that is put behind a text, and what the text is cut into then.
-use Rattle.std.proofs.Common.{◌≡◌, ℕ, ◌+◌, true, cond, List, [], ◌∷◌, ◌++◌, length, drop, refl, ap, sym, ◌∙◌, arith, inl, inr, subst, length-append}
+use Rattle.std.proofs.Common.{◌≡◌, ℕ, ◌+◌, true, cond, List, [], ◌∷◌, ◌++◌, length, drop, refl, ap, sym, ◌∙◌, arith, inl, inr, subst, length-append, IsAscii}
 use Rattle.std.proofs.Math.Seq.{drop-append_seam}
 use Rattle.std.proofs.lemmas.Bool.{cases_Bool}
 use Rattle.std.proofs.lemmas.List.{append-nil}
@@ -64,9 +64,10 @@ feed_line bs p closed n at fresh shut blank =
 
 -- ---- the text
 
-pub continued : (u more : List ℕ) (xs front : List Item) (n k : ℕ) → Lex start (u ++ more) (with_items xs (fed_lexed n k)) → length (u ++ more) ≡ n + 1 → tokens_of (xs ++ item n newline (n + 1) ∷ []) ≡ tokens_of front → IsContinued u front
-continued u more xs front n k d len same = record {
+pub continued : (u more : List ℕ) (xs front : List Item) (n k : ℕ) → IsAscii more → Lex start (u ++ more) (with_items xs (fed_lexed n k)) → length (u ++ more) ≡ n + 1 → tokens_of (xs ++ item n newline (n + 1) ∷ []) ≡ tokens_of front → IsContinued u front
+continued u more xs front n k ascii d len same = record {
   more = more;
+  ascii = ascii;
   before = xs;
   z = item n newline (n + 1);
   behind = item (n + 1) newline (n + 1) ∷ (dedents (n + 1) k ++ []);

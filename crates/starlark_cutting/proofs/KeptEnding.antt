@@ -1,8 +1,10 @@
 -- What is put behind a text that is cut off: words, the ends of fields and the ends of f-strings.
-use Rattle.std.proofs.Common.{◌≡◌, ◌<◌, ℕ, ◌+◌, Bool, true, false, List, [], ◌∷◌, ◌++◌, length, drop, refl, ap, sym, ◌∙◌, arith, suc, subst, append_assoc}
+use Rattle.std.proofs.Common.{◌≡◌, ◌<◌, ℕ, ◌+◌, Bool, true, false, List, [], ◌∷◌, ◌++◌, length, drop, refl, ap, sym, ◌∙◌, arith, suc, subst, append_assoc, IsAscii}
 use Rattle.std.specs.Prelude.{Some}
 use Rattle.std.proofs.lemmas.Bool.{false≢true}
 use Rattle.std.proofs.lemmas.List.{drop-append-le, drop_all}
+use Rattle.std.proofs.lemmas.Str.{IsAscii-append}
+use Rattle.std.proofs.lemmas.Str.Ascii.{IsAscii-nil, IsAscii-cons}
 use Rattle.starlark_lexer.specs.declared.literal.Form.{Form}
 use Rattle.starlark_lexer.specs.Items.{Lexeme, Item, item, Lexed, identifier, string, fstring_expr_start, fstring_expr_end, fstring_end, with_items}
 use Rattle.starlark_lexer.specs.Literals.{quotes, is_format}
@@ -18,7 +20,7 @@ use Rattle.starlark_cutting.proofs.KeptLines.{Stops, first_not, unescaped}
 use Rattle.starlark_cutting.proofs.KeptPuts.{alone_lexeme, put_past}
 use Rattle.starlark_cutting.proofs.KeptString.{text_form, string_lexeme, string_body, string_value}
 use Rattle.starlark_cutting.proofs.KeptSpelled as spelled
-use Rattle.starlark_cutting.proofs.KeptMarks.{marks_of, marks_len}
+use Rattle.starlark_cutting.proofs.KeptMarks.{marks_of, marks_len, marks_ascii}
 use Rattle.starlark_cutting.proofs.KeptTails.{closed_marks, field_brace, stops_brace}
 use Rattle.starlark_cutting.proofs.KeptOrdinary.{ordinary}
 use Rattle.starlark_cutting.proofs.KeptLinked.{Linked, ordinary_goes, leaves_goes, opens_goes, shuts_goes, names}
@@ -68,6 +70,7 @@ put_empty p o m fresh low stop d =
 
 pub record PutOn (t : Bool) (p : Past) (xs : List Lexeme) : Type 0 where
   pub bytes : List ℕ
+  pub ascii : IsAscii bytes
   pub past : Past
   pub items : List Item
   pub names : names items ≡ xs
@@ -91,13 +94,14 @@ linked_outside (rules.inside b g) (m ∷ os) its (in_text k) h e = absurd (false
 linked_outside (rules.field b g bs) os its n h e = refl
 
 -- a word of n bytes, and those behind it
-word_more : (p : Past) (s : List ℕ) (n : ℕ) (x : Lexeme) (ys : List Lexeme) → is_inside p.mode ≡ false
+word_more : (p : Past) (s : List ℕ) (n : ℕ) (x : Lexeme) (ys : List Lexeme) → is_inside p.mode ≡ false → IsAscii s
     → ((o : List ℕ) → Stops o → (m : Lexed) → Lex (put_past p n x) o m → Lex p (32 ∷ (s ++ o)) (with_items (item (p.place + 1 + 0) x (p.place + 1 + 0 + n) ∷ []) m))
     → PutOn false (put_past p n x) ys → PutOn false p (x ∷ ys)
-word_more p s n x ys low first r =
+word_more p s n x ys low ascii first r =
     let it : Item = item (p.place + 1 + 0) x (p.place + 1 + 0 + n) in
     record {
       bytes = 32 ∷ (s ++ r.bytes);
+      ascii = IsAscii-cons 32 (s ++ r.bytes) (omega arith) (IsAscii-append s r.bytes ascii r.ascii);
       past = r.past;
       items = it ∷ r.items;
       names = ap (λ zs. x ∷ zs) r.names;
@@ -120,6 +124,7 @@ quotes_more p b g ys fresh c low r =
     let cut : (o : List ℕ) → drop (quotes g.quote) (ms ++ o) ≡ o = λ o. drop-append-le (quotes g.quote) ms o (omega (arith, marks_len g.quote)) ∙ ap (λ v. v ++ o) (drop_all (quotes g.quote) ms (omega (arith, marks_len g.quote))) in
     record {
       bytes = ms ++ r.bytes;
+      ascii = IsAscii-append ms r.bytes (marks_ascii g.quote) r.ascii;
       past = r.past;
       items = it ∷ r.items;
       names = ap (λ zs. fstring_end ∷ zs) r.names;
@@ -142,6 +147,7 @@ brace_more p b g bs ys fresh c shut r =
     let low : is_inside p.mode ≡ false = ap is_inside c in
     record {
       bytes = 32 ∷ 125 ∷ r.bytes;
+      ascii = IsAscii-cons 32 (125 ∷ r.bytes) (omega arith) (IsAscii-cons 125 r.bytes (omega arith) r.ascii);
       past = r.past;
       items = it ∷ r.items;
       names = ap (λ zs. fstring_expr_end ∷ zs) r.names;
@@ -155,19 +161,19 @@ brace_more p b g bs ys fresh c shut r =
     }
 
 word_on : (p : Past) (n l : Nest) (w : List ℕ) (x : Lexeme) (ys : List Lexeme) → p.fresh ≡ false → Linked p.mode p.outer p.items n → within_text n ≡ false → Goes_to x n l → ordinary x ≡ true
-    → 0 < length w → meaning w ≡ Some (token x) → ((o : List ℕ) → Ends_none p (w ++ o))
+    → IsAscii w → 0 < length w → meaning w ≡ Some (token x) → ((o : List ℕ) → Ends_none p (w ++ o))
     → (let q : Past = put_past p (length w) x in Linked q.mode q.outer q.items l → PutOn false q ys) → PutOn false p (x ∷ ys)
-word_on p n l w x ys fresh linked out goes ord some means none next =
+word_on p n l w x ys fresh linked out goes ord ascii some means none next =
     let low = linked_outside p.mode p.outer p.items n linked out in
     let it : Item = item (p.place + 1 + 0) x (p.place + 1 + 0 + length w) in
-    word_more p w (length w) x ys low (λ o stop m d. put_word p w o x m fresh low some means stop (none o) d) (next (ordinary_goes p.mode p.outer it p.items n l low ord linked goes))
+    word_more p w (length w) x ys low ascii (λ o stop m d. put_word p w o x m fresh low some means stop (none o) d) (next (ordinary_goes p.mode p.outer it p.items n l low ord linked goes))
 
 empty_on : (p : Past) (n l : Nest) (ys : List Lexeme) → p.fresh ≡ false → Linked p.mode p.outer p.items n → within_text n ≡ false → Goes_to (string []) n l
     → (let q : Past = put_past p 2 (string []) in Linked q.mode q.outer q.items l → PutOn false q ys) → PutOn false p (string [] ∷ ys)
 empty_on p n l ys fresh linked out goes next =
     let low = linked_outside p.mode p.outer p.items n linked out in
     let it : Item = item (p.place + 1 + 0) (string []) (p.place + 1 + 0 + 2) in
-    word_more p (34 ∷ 34 ∷ []) 2 (string []) ys low (λ o stop m d. put_empty p o m fresh low stop d) (next (ordinary_goes p.mode p.outer it p.items n l low refl linked goes))
+    word_more p (34 ∷ 34 ∷ []) 2 (string []) ys low (spelled.ascii plain.a_string) (λ o stop m d. put_empty p o m fresh low stop d) (next (ordinary_goes p.mode p.outer it p.items n l low refl linked goes))
 
 -- a bracket is open in the field
 deeper_depth : (b : ℕ) (g : Form) (bs : List Bracket) (os : List Mode) (its : List Item) (n l : Nest) → Linked (rules.field b g bs) os its n → n ≡ deeper l → IsDepth bs 0 → ⊥
@@ -209,33 +215,33 @@ line_mode p h = linked_outside p.mode p.outer p.items (outside 0) h refl
 pub put_on : (xs : List Put) (p : Past) (n : Nest) → p.fresh ≡ false → Linked p.mode p.outer p.items n → Way n (put_lexemes xs) (outside 0) → PutOn false p (put_lexemes xs)
 put_on [] p n fresh linked way =
     let h = subst (Linked p.mode p.outer p.items) way linked in
-    record { bytes = []; past = p; items = []; names = refl; fresh = fresh; linked = h; lines = refl; follows = λ o stop. stops_follows p.mode o (line_mode p h) stop; lex = λ o stop m d. d }
+    record { bytes = []; ascii = IsAscii-nil; past = p; items = []; names = refl; fresh = fresh; linked = h; lines = refl; follows = λ o stop. stops_follows p.mode o (line_mode p h) stop; lex = λ o stop m d. d }
 put_on (opened.plain plain.a_name ∷ xs) p n fresh h way =
-    word_on p n way.0 (plain.spelling plain.a_name) (plain.lexeme_of plain.a_name) (put_lexemes xs) fresh h way.1.0.0 way.1.0 refl (omega arith) spelled.a_name (λ o b g bs e d. refl) (λ k. put_on xs _ way.0 refl k way.1.1)
+    word_on p n way.0 (plain.spelling plain.a_name) (plain.lexeme_of plain.a_name) (put_lexemes xs) fresh h way.1.0.0 way.1.0 refl (spelled.ascii plain.a_name) (omega arith) spelled.a_name (λ o b g bs e d. refl) (λ k. put_on xs _ way.0 refl k way.1.1)
 put_on (opened.plain plain.an_else ∷ xs) p n fresh h way =
-    word_on p n way.0 (plain.spelling plain.an_else) (plain.lexeme_of plain.an_else) (put_lexemes xs) fresh h way.1.0.0 way.1.0 refl (omega arith) spelled.an_else (λ o b g bs e d. refl) (λ k. put_on xs _ way.0 refl k way.1.1)
+    word_on p n way.0 (plain.spelling plain.an_else) (plain.lexeme_of plain.an_else) (put_lexemes xs) fresh h way.1.0.0 way.1.0 refl (spelled.ascii plain.an_else) (omega arith) spelled.an_else (λ o b g bs e d. refl) (λ k. put_on xs _ way.0 refl k way.1.1)
 put_on (opened.plain plain.an_in ∷ xs) p n fresh h way =
-    word_on p n way.0 (plain.spelling plain.an_in) (plain.lexeme_of plain.an_in) (put_lexemes xs) fresh h way.1.0.0 way.1.0 refl (omega arith) spelled.an_in (λ o b g bs e d. refl) (λ k. put_on xs _ way.0 refl k way.1.1)
+    word_on p n way.0 (plain.spelling plain.an_in) (plain.lexeme_of plain.an_in) (put_lexemes xs) fresh h way.1.0.0 way.1.0 refl (spelled.ascii plain.an_in) (omega arith) spelled.an_in (λ o b g bs e d. refl) (λ k. put_on xs _ way.0 refl k way.1.1)
 put_on (opened.plain plain.a_pass ∷ xs) p n fresh h way =
-    word_on p n way.0 (plain.spelling plain.a_pass) (plain.lexeme_of plain.a_pass) (put_lexemes xs) fresh h way.1.0.0 way.1.0 refl (omega arith) spelled.a_pass (λ o b g bs e d. refl) (λ k. put_on xs _ way.0 refl k way.1.1)
+    word_on p n way.0 (plain.spelling plain.a_pass) (plain.lexeme_of plain.a_pass) (put_lexemes xs) fresh h way.1.0.0 way.1.0 refl (spelled.ascii plain.a_pass) (omega arith) spelled.a_pass (λ o b g bs e d. refl) (λ k. put_on xs _ way.0 refl k way.1.1)
 put_on (opened.plain plain.a_comma ∷ xs) p n fresh h way =
-    word_on p n way.0 (plain.spelling plain.a_comma) (plain.lexeme_of plain.a_comma) (put_lexemes xs) fresh h way.1.0.0 way.1.0 refl (omega arith) spelled.a_comma (λ o b g bs e d. refl) (λ k. put_on xs _ way.0 refl k way.1.1)
+    word_on p n way.0 (plain.spelling plain.a_comma) (plain.lexeme_of plain.a_comma) (put_lexemes xs) fresh h way.1.0.0 way.1.0 refl (spelled.ascii plain.a_comma) (omega arith) spelled.a_comma (λ o b g bs e d. refl) (λ k. put_on xs _ way.0 refl k way.1.1)
 put_on (opened.plain plain.a_colon ∷ xs) p n fresh h way =
-    word_on p n way.0 (plain.spelling plain.a_colon) (plain.lexeme_of plain.a_colon) (put_lexemes xs) fresh h way.1.0.0 way.1.0 refl (omega arith) spelled.a_colon (λ o b g bs e d. refl) (λ k. put_on xs _ way.0 refl k way.1.1)
+    word_on p n way.0 (plain.spelling plain.a_colon) (plain.lexeme_of plain.a_colon) (put_lexemes xs) fresh h way.1.0.0 way.1.0 refl (spelled.ascii plain.a_colon) (omega arith) spelled.a_colon (λ o b g bs e d. refl) (λ k. put_on xs _ way.0 refl k way.1.1)
 put_on (opened.plain plain.an_equal ∷ xs) p n fresh h way =
-    word_on p n way.0 (plain.spelling plain.an_equal) (plain.lexeme_of plain.an_equal) (put_lexemes xs) fresh h way.1.0.0 way.1.0 refl (omega arith) spelled.an_equal (λ o b g bs e d. refl) (λ k. put_on xs _ way.0 refl k way.1.1)
+    word_on p n way.0 (plain.spelling plain.an_equal) (plain.lexeme_of plain.an_equal) (put_lexemes xs) fresh h way.1.0.0 way.1.0 refl (spelled.ascii plain.an_equal) (omega arith) spelled.an_equal (λ o b g bs e d. refl) (λ k. put_on xs _ way.0 refl k way.1.1)
 put_on (opened.plain plain.an_opening ∷ xs) p n fresh h way =
-    word_on p n way.0 (plain.spelling plain.an_opening) (plain.lexeme_of plain.an_opening) (put_lexemes xs) fresh h way.1.0.0 way.1.0 refl (omega arith) spelled.an_opening (λ o b g bs e d. refl) (λ k. put_on xs _ way.0 refl k way.1.1)
+    word_on p n way.0 (plain.spelling plain.an_opening) (plain.lexeme_of plain.an_opening) (put_lexemes xs) fresh h way.1.0.0 way.1.0 refl (spelled.ascii plain.an_opening) (omega arith) spelled.an_opening (λ o b g bs e d. refl) (λ k. put_on xs _ way.0 refl k way.1.1)
 put_on (opened.plain plain.a_round ∷ xs) p n fresh h way =
-    word_on p n way.0 (plain.spelling plain.a_round) (plain.lexeme_of plain.a_round) (put_lexemes xs) fresh h way.1.0.0 way.1.0 refl (omega arith) spelled.a_round (λ o b g bs e d. refl) (λ k. put_on xs _ way.0 refl k way.1.1)
+    word_on p n way.0 (plain.spelling plain.a_round) (plain.lexeme_of plain.a_round) (put_lexemes xs) fresh h way.1.0.0 way.1.0 refl (spelled.ascii plain.a_round) (omega arith) spelled.a_round (λ o b g bs e d. refl) (λ k. put_on xs _ way.0 refl k way.1.1)
 put_on (opened.plain plain.a_square ∷ xs) p n fresh h way =
-    word_on p n way.0 (plain.spelling plain.a_square) (plain.lexeme_of plain.a_square) (put_lexemes xs) fresh h way.1.0.0 way.1.0 refl (omega arith) spelled.a_square (λ o b g bs e d. refl) (λ k. put_on xs _ way.0 refl k way.1.1)
+    word_on p n way.0 (plain.spelling plain.a_square) (plain.lexeme_of plain.a_square) (put_lexemes xs) fresh h way.1.0.0 way.1.0 refl (spelled.ascii plain.a_square) (omega arith) spelled.a_square (λ o b g bs e d. refl) (λ k. put_on xs _ way.0 refl k way.1.1)
 put_on (opened.plain plain.a_curly ∷ xs) p n fresh h way =
-    word_on p n way.0 (plain.spelling plain.a_curly) (plain.lexeme_of plain.a_curly) (put_lexemes xs) fresh h way.1.0.0 way.1.0 refl (omega arith) spelled.a_curly
+    word_on p n way.0 (plain.spelling plain.a_curly) (plain.lexeme_of plain.a_curly) (put_lexemes xs) fresh h way.1.0.0 way.1.0 refl (spelled.ascii plain.a_curly) (omega arith) spelled.a_curly
     (λ o b g bs e d. absurd (deeper_depth b g bs p.outer p.items n way.0 (subst (λ m. Linked m p.outer p.items n) e h) way.1.0.1 d)) (λ k. put_on xs _ way.0 refl k way.1.1)
 put_on (opened.plain plain.a_string ∷ xs) p n fresh h way = empty_on p n way.0 (put_lexemes xs) fresh h way.1.0.0 way.1.0 (λ k. put_on xs _ way.0 refl k way.1.1)
 put_on (opened.a_letter ∷ xs) p n fresh h way =
-    word_on p n way.0 (115 ∷ []) (identifier (115 ∷ [])) (put_lexemes xs) fresh h way.1.0.0 way.1.0 refl (omega arith) a_letter (λ o b g bs e d. refl) (λ k. put_on xs _ way.0 refl k way.1.1)
+    word_on p n way.0 (115 ∷ []) (identifier (115 ∷ [])) (put_lexemes xs) fresh h way.1.0.0 way.1.0 refl (IsAscii-cons 115 [] (omega arith) IsAscii-nil) (omega arith) a_letter (λ o b g bs e d. refl) (λ k. put_on xs _ way.0 refl k way.1.1)
 put_on (opened.field_end ∷ xs) p n fresh h way =
     let g = way.1.0 in
     let f = linked_field p.mode p.outer p.items g.0 (subst (Linked p.mode p.outer p.items) g.1.0 h) in
@@ -258,6 +264,7 @@ field_on xs p n fresh linked way =
     let it : Item = item p.place fstring_expr_start (p.place + 1) in
     record {
       bytes = 123 ∷ r.bytes;
+      ascii = IsAscii-cons 123 r.bytes (omega arith) r.ascii;
       past = r.past;
       items = it ∷ r.items;
       names = ap (λ zs. fstring_expr_start ∷ zs) r.names;

@@ -41,6 +41,7 @@ finish u v front n xs c r =
     let m = end_line r.past w.still a l.1 (subst (λ ls. Closes ls 0 w.still) (sym r.lines) (record { once = w.stack.once; each = λ x. w.stack.each x })) in
     record {
       bytes = r.bytes;
+      ascii = r.ascii;
       finished = record {
         put = r.items;
         names = r.names;

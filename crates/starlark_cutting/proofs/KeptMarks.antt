@@ -1,10 +1,11 @@
 -- No lexeme reaches over quotes that are put behind a text, where the text ends in a prefix and quotes, or in the brace that ends a field.
-use Rattle.std.proofs.Common.{◌≡◌, ◌<◌, ◌≤◌, ◌⊎◌, ℕ, ◌+◌, ◌-◌, Bool, true, false, not, ◌&&◌, ◌||◌, List, [], ◌∷◌, ◌++◌, length, take, drop, get_or, refl, ap, sym, ◌∙◌, arith, suc, inl, inr, eqb, ltb, subst, append_assoc, length-append, length-drop, take-append-drop}
+use Rattle.std.proofs.Common.{◌≡◌, ◌<◌, ◌≤◌, ◌⊎◌, ℕ, ◌+◌, ◌-◌, Bool, true, false, not, ◌&&◌, ◌||◌, List, [], ◌∷◌, ◌++◌, length, take, drop, get_or, refl, ap, sym, ◌∙◌, arith, suc, inl, inr, eqb, ltb, subst, append_assoc, length-append, length-drop, take-append-drop, IsAscii}
 use Rattle.std.specs.Prelude.{Option, Some, None}
 use Rattle.std.proofs.lemmas.Bool.{cases_Bool, cases_lt, false≢true}
 use Rattle.std.proofs.lemmas.Bool.Decides.{nat_tests}
 use Rattle.std.proofs.lemmas.List.{get_or-take, get_or-drop, get_or_append_left, get_or-append-add, length-take-le}
 use Rattle.std.proofs.lemmas.List.Folds.{list_all_at}
+use Rattle.std.proofs.lemmas.Str.Ascii.{IsAscii-nil, IsAscii-cons}
 use Rattle.std.proofs.lemmas.List.Sums.{prefix_len_passes, prefix_len-le-length}
 use Rattle.std.specs.List.{list_all}
 use Rattle.std.specs.Char.{is_digit}
@@ -195,6 +196,12 @@ marks_len Single = omega arith
 marks_len Double = omega arith
 marks_len TripleSingle = omega arith
 marks_len TripleDouble = omega arith
+
+pub marks_ascii : (q : FStringQuote) → IsAscii (marks_of q)
+marks_ascii Single = IsAscii-cons 39 [] (omega arith) IsAscii-nil
+marks_ascii Double = IsAscii-cons 34 [] (omega arith) IsAscii-nil
+marks_ascii TripleSingle = IsAscii-cons 39 (39 ∷ 39 ∷ []) (omega arith) (IsAscii-cons 39 (39 ∷ []) (omega arith) (IsAscii-cons 39 [] (omega arith) IsAscii-nil))
+marks_ascii TripleDouble = IsAscii-cons 34 (34 ∷ 34 ∷ []) (omega arith) (IsAscii-cons 34 (34 ∷ []) (omega arith) (IsAscii-cons 34 [] (omega arith) IsAscii-nil))
 
 first_mark : (q : FStringQuote) (o : List ℕ) → is_mark (get_or (marks_of q ++ o) 0 0) ≡ true
 first_mark Single o = refl

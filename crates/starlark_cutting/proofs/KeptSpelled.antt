@@ -1,12 +1,15 @@
--- The words that are put behind a text, as lexemes.
-use Rattle.std.proofs.Common.{◌≡◌, [], ◌∷◌, refl}
+-- The words that are put behind a text, as lexemes, and that they are ASCII.
+use Rattle.std.proofs.Common.{◌≡◌, [], ◌∷◌, refl, arith, IsAscii}
 use Rattle.std.specs.Prelude.{Some}
+use Rattle.std.proofs.lemmas.Str.Ascii.{IsAscii-nil, IsAscii-cons}
 use Rattle.starlark_lexer.specs.Items.{newline, item, nothing, with_items, identifier, keyword_else, keyword_in, keyword_pass, comma, colon, equal, opening_round, closing_round, closing_square, closing_curly}
 use Rattle.starlark_lexer.specs.Classes.{meaning, token, keyword_of, is_reserved, operator_of}
 use Rattle.starlark_lexer.specs.Literals.{opening_of}
 use Rattle.starlark_lexer.specs.Lex.{Lex, start, is_over}
 use Rattle.starlark_lexer.specs.Lex as rules
 use Rattle.starlark_lexer.proofs.Widths.{no_lines}
+use Rattle.starlark_cutting.specs.Spelling.{Plain, spelling}
+use Rattle.starlark_cutting.specs.Spelling as plain
 
 pub a_name : meaning (120 ∷ []) ≡ Some (token (identifier (120 ∷ [])))
 unfolding meaning keyword_of is_reserved
@@ -51,6 +54,21 @@ a_square = refl
 pub a_curly : meaning (125 ∷ []) ≡ Some (token closing_curly)
 unfolding meaning opening_of operator_of
 a_curly = refl
+
+-- the bytes of a word
+pub ascii : (p : Plain) → IsAscii (spelling p)
+ascii plain.a_name = IsAscii-cons 120 [] (omega arith) IsAscii-nil
+ascii plain.an_else = IsAscii-cons 101 (108 ∷ 115 ∷ 101 ∷ []) (omega arith) (IsAscii-cons 108 (115 ∷ 101 ∷ []) (omega arith) (IsAscii-cons 115 (101 ∷ []) (omega arith) (IsAscii-cons 101 [] (omega arith) IsAscii-nil)))
+ascii plain.an_in = IsAscii-cons 105 (110 ∷ []) (omega arith) (IsAscii-cons 110 [] (omega arith) IsAscii-nil)
+ascii plain.a_pass = IsAscii-cons 112 (97 ∷ 115 ∷ 115 ∷ []) (omega arith) (IsAscii-cons 97 (115 ∷ 115 ∷ []) (omega arith) (IsAscii-cons 115 (115 ∷ []) (omega arith) (IsAscii-cons 115 [] (omega arith) IsAscii-nil)))
+ascii plain.a_comma = IsAscii-cons 44 [] (omega arith) IsAscii-nil
+ascii plain.a_colon = IsAscii-cons 58 [] (omega arith) IsAscii-nil
+ascii plain.an_equal = IsAscii-cons 61 [] (omega arith) IsAscii-nil
+ascii plain.an_opening = IsAscii-cons 40 [] (omega arith) IsAscii-nil
+ascii plain.a_round = IsAscii-cons 41 [] (omega arith) IsAscii-nil
+ascii plain.a_square = IsAscii-cons 93 [] (omega arith) IsAscii-nil
+ascii plain.a_curly = IsAscii-cons 125 [] (omega arith) IsAscii-nil
+ascii plain.a_string = IsAscii-cons 34 (34 ∷ []) (omega arith) (IsAscii-cons 34 [] (omega arith) IsAscii-nil)
 
 -- the empty text is cut into one line end
 pub empty_text : Lex start [] (with_items (item 0 newline 0 ∷ []) nothing)

@@ -1,5 +1,5 @@
 -- A text that is cut off behind one of its lexemes, and what it is cut into with other bytes behind it.
-use Rattle.std.specs.Prelude.{◌≡◌, ◌<◌, ◌+◌, ℕ, zero, suc, Bool, true, false, if◌then◌else◌, List, [], ◌∷◌, ◌++◌, length, map, count_by, Option, None}
+use Rattle.std.specs.Prelude.{◌≡◌, ◌<◌, ◌+◌, ℕ, zero, suc, Bool, true, false, if◌then◌else◌, List, [], ◌∷◌, ◌++◌, length, map, count_by, Option, None, IsAscii}
 use Rattle.starlark_lexer.specs.Items.{Lexeme, newline, comment, indent, dedent, keyword_pass, dedents, is_opening, is_closing, Item, item, Stop, Lexed, nothing, with_items, opening_item, closing_item}
 use Rattle.starlark_lexer.specs.Lex.{Lex, start}
 use Rattle.starlark_lexer.specs.Joining.{is_comment, is_indent, dedent_item, outside}
@@ -104,6 +104,8 @@ tokens_of (x ∷ xs) = if is_comment x.lexeme then tokens_of xs else x.lexeme �
 -- The text with some bytes behind it is cut into tokens that are those of the front, the last of which is a line end that the text has.
 pub record IsContinued (u : List ℕ) (front : List Item) : Type 0 where
   pub more : List ℕ
+  -- each of them is an ASCII byte
+  pub ascii : IsAscii more
   pub before : List Item
   pub z : Item
   pub behind : List Item

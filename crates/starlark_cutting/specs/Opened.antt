@@ -1,5 +1,5 @@
 -- Where a place of a text is among f-strings and brackets that are open, and what is put behind a text that is cut off there.
-use Rattle.std.specs.Prelude.{◌≡◌, ℕ, suc, Bool, true, false, List, [], ◌∷◌}
+use Rattle.std.specs.Prelude.{◌≡◌, ℕ, suc, Bool, true, false, List, [], ◌∷◌, IsAscii}
 use Rattle.starlark_lexer.specs.Items.{Lexeme, comment, identifier, opening_round, opening_square, opening_curly, closing_round, closing_square, closing_curly, fstring_start, fstring_text, fstring_expr_start, fstring_bang, fstring_expr_end, fstring_end, Item}
 use Rattle.starlark_cutting.specs.Cutting.{IsFinished}
 use Rattle.starlark_cutting.specs.Spelling.{Plain, lexeme_of}
@@ -66,4 +66,6 @@ is_text _ = false
 -- With some bytes and a line feed behind it the text is cut into the items of the front, those lexemes, the line end and the end of the text.
 pub record IsFinishedBy (text : List ℕ) (front : List Item) (xs : List Lexeme) : Type 0 where
   pub bytes : List ℕ
+  -- each of them is an ASCII byte
+  pub ascii : IsAscii bytes
   pub finished : IsFinished text bytes front xs

@@ -46,15 +46,15 @@ pub fn cut_off_kinds()
 {}
 
 /// A text that is cut off behind its end, where no f-string and no bracket is open, is cut into the
-/// same tokens with some bytes behind it, where a line end stands in place of its end.
+/// same tokens with some ASCII bytes behind it, where a line end stands in place of its end.
 pub fn cut_off_ends()
     ensures newline { (u v : List ℕ) (before : List Item) (z : Item) (behind : List Item) → IsCutAt u v before z behind → z.lexeme ≡ newline → z.end ≡ z.begin → open_behind 0 (before ++ z ∷ []) ≡ 0 → EvenWith (before ++ z ∷ []) [] → IsContinued u (before ++ z ∷ []) }
 {}
 
 /// A text that is cut off behind a lexeme within a line, also in a field of an f-string, behind the
-/// start of one or behind the end of a field, is cut into the same up to there with words behind it
-/// that close what is open there, the innermost first, and a line feed. Behind a piece of text of an
-/// f-string a field is begun first.
+/// start of one or behind the end of a field, is cut into the same up to there with words of ASCII
+/// behind it that close what is open there, the innermost first, and a line feed. Behind a piece of
+/// text of an f-string a field is begun first.
 pub fn cut_off_fields()
     ensures line { (u v : List ℕ) (before : List Item) (z : Item) (behind : List Item) (n : Nest) (xs : List Put) → IsCutAt u v before z behind → inner z.lexeme ≡ true → is_text z.lexeme ≡ false → Way (outside 0) (map (λ x. x.lexeme) (before ++ z ∷ [])) n → Way n (put_lexemes xs) (outside 0) → IsFinishedBy u (before ++ z ∷ []) (put_lexemes xs) }
     ensures text { (u v : List ℕ) (before : List Item) (z : Item) (behind : List Item) (w : List ℕ) (m : Nest) (xs : List Put) → IsCutAt u v before z behind → z.lexeme ≡ fstring_text w → Way (outside 0) (map (λ x. x.lexeme) (before ++ z ∷ [])) (in_text m) → Way (in_field 0 m) (put_lexemes xs) (outside 0) → IsFinishedBy u (before ++ z ∷ []) (fstring_expr_start ∷ put_lexemes xs) }

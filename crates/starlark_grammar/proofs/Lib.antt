@@ -45,3 +45,4 @@ pub mod Ended
 pub mod Alls
 pub mod Variants
 pub mod Commented
+pub mod Uncommented

@@ -22,7 +22,8 @@ use Rattle.starlark_joining.proofs.Level.{level_program}
 use Rattle.starlark_joining.proofs.Tops.{tops_same}
 use Rattle.starlark_joining.proofs.FirstPart.{FirstPart, first_part}
 use Rattle.starlark_joining.proofs.SecondPart.{SecondPart, second_part}
-use Rattle.starlark_joining.proofs.Uncommented.{without_append, without_dedents, dedents_on, line_ends, lines_on}
+use Rattle.starlark_grammar.proofs.Uncommented.{without_append, without_dedents}
+use Rattle.starlark_joining.proofs.Uncommented.{dedents_on, line_ends, lines_on}
 
 -- what the laws of the lexer, of the grammar and of the rules say
 module _

@@ -18,7 +18,8 @@ use Rattle.starlark_joining.proofs.Walking.{CleanRun, halts}
 use Rattle.starlark_joining.proofs.Level.{no_stuck}
 use Rattle.starlark_joining.proofs.Rowed.{NoElse, is_else}
 use Rattle.starlark_joining.proofs.FirstPart.{Lined, lined}
-use Rattle.starlark_joining.proofs.Uncommented.{without_append, without_on, all_lines, items_on}
+use Rattle.starlark_grammar.proofs.Uncommented.{without_append}
+use Rattle.starlark_joining.proofs.Uncommented.{without_on, all_lines, items_on}
 use Rattle.starlark_joining.proofs.SameRuns.{SameTrace, same_runs}
 use Rattle.starlark_joining.proofs.SameTraces.{BothAccept, both_accept, marks_same, clean_same}
 

@@ -1,5 +1,5 @@
--- Tokens without comments: of lists one behind the other, of those n bytes on, of line ends and Dedents.
-use Rattle.std.proofs.Common.{ℕ, ◌≡◌, ◌+◌, ◌∷◌, ◌++◌, ◌∙◌, ◌&&◌, [], zero, suc, List, Bool, true, false, cond, map, refl, ap}
+-- Tokens without comments: of those n bytes on, of line ends, and of Dedents n bytes on.
+use Rattle.std.proofs.Common.{ℕ, ◌≡◌, ◌+◌, ◌∷◌, ◌∙◌, ◌&&◌, [], zero, suc, List, Bool, true, false, cond, map, refl, ap}
 use Rattle.std.specs.List.{list_all}
 use Rattle.std.proofs.lemmas.Bool.{false≢true}
 use Rattle.starlark_lexer.specs.Items.{Lexeme, newline, comment, dedent, dedents, Item, item}
@@ -10,14 +10,6 @@ use Rattle.starlark_joining.specs.Kept.{Moved}
 use Rattle.starlark_joining.proofs.Coming.{ends_line}
 use Rattle.starlark_joining.proofs.FirstPart.{AreLines, a_line, no_lines}
 
-pub without_append : (xs ys : List Item) → without_comments (xs ++ ys) ≡ without_comments xs ++ without_comments ys
-without_append [] ys = refl
-without_append (x ∷ xs) ys = by (is_comment x.lexeme) (without_append xs ys)
-  where
-    by : (b : Bool) → without_comments (xs ++ ys) ≡ without_comments xs ++ without_comments ys → cond b (without_comments (xs ++ ys)) (x ∷ without_comments (xs ++ ys)) ≡ cond b (without_comments xs) (x ∷ without_comments xs) ++ without_comments ys
-    by true h = h
-    by false h = ap (λ zs. x ∷ zs) h
-
 pub without_on : (n : ℕ) (xs : List Item) → without_comments (map (item_on n) xs) ≡ map (item_on n) (without_comments xs)
 without_on n [] = refl
 without_on n (x ∷ xs) = by (is_comment x.lexeme) (without_on n xs)
@@ -25,10 +17,6 @@ without_on n (x ∷ xs) = by (is_comment x.lexeme) (without_on n xs)
     by : (b : Bool) → without_comments (map (item_on n) xs) ≡ map (item_on n) (without_comments xs) → cond b (without_comments (map (item_on n) xs)) (item_on n x ∷ without_comments (map (item_on n) xs)) ≡ map (item_on n) (cond b (without_comments xs) (x ∷ without_comments xs))
     by true h = h
     by false h = ap (λ zs. item_on n x ∷ zs) h
-
-pub without_dedents : (p count : ℕ) → without_comments (dedents p count) ≡ dedents p count
-without_dedents p zero = refl
-without_dedents p (suc count) = ap (λ zs. item p dedent p ∷ zs) (without_dedents p count)
 
 pub dedents_on : (n p count : ℕ) → map (item_on n) (dedents p count) ≡ dedents (n + p) count
 dedents_on n p zero = refl
