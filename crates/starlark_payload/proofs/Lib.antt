@@ -5,3 +5,4 @@ pub mod Loops
 pub mod Naming
 pub mod Opening
 pub mod Parts
+pub mod StatementOpening

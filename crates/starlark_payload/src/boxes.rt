@@ -94,6 +94,20 @@ pub(crate) fn boxed_both<T: Drop, U: Drop, R: Drop>(
     Ok((x, y, rest))
 }
 
+/// The first two of three values, each in a box, the second if there is one.
+pub(crate) fn boxed_and_maybe<T: Drop, U: Drop, R: Drop>(
+    alloc: Global,
+    x: T,
+    y: Option<U>,
+    rest: R,
+) -> Result<(Box<T>, Option<Box<U>>, R), AllocError>
+    ensures { IfOk result (λ b. (b.0.value ≡ x) × (unboxed b.1 ≡ y) × (b.2 ≡ rest)) }
+{
+    let x = boxed(alloc, x)?;
+    let y = maybe_boxed(alloc, y)?;
+    Ok((x, y, rest))
+}
+
 /// A value in a box, with three that may be there.
 pub(crate) fn boxed_with_three<T: Drop>(
     alloc: Global,
