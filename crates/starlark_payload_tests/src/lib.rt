@@ -9,3 +9,5 @@ mod expressions;
 mod maps;
 #[cfg(test)]
 mod parts;
+#[cfg(test)]
+mod statements;
