@@ -1,9 +1,11 @@
 -- The bytes that are passed over.
-use Rattle.std.proofs.Common.{◌≡◌, ◌<◌, ◌≤◌, ℕ, ◌+◌, Bool, true, false, List, [], ◌∷◌, length, drop, refl, ap, sym, arith, zero, suc, inl, inr, eqb}
+use Rattle.std.proofs.Common.{◌≡◌, ◌<◌, ◌≤◌, ℕ, ◌+◌, Bool, true, false, List, [], ◌∷◌, length, drop, refl, ap, sym, arith, zero, suc, inl, inr, cond, eqb, one-add}
 use Rattle.std.proofs.lemmas.Bool.{cases_Bool, false≢true}
 use Rattle.std.proofs.lemmas.Bool.Decides.{nat_tests}
 use Rattle.std.proofs.lemmas.List.{drop-drop}
+use Rattle.std.specs.List.{prefix_len}
 use Rattle.starlark_lexer.specs.Classes.{is_blank, line_end, line_len, begins_line}
+use Rattle.starlark_lexer.specs.Fronts.{is_plain}
 use Rattle.starlark_lexer.specs.Scan.{pass, gap}
 
 begins_some : (xs : List ℕ) → begins_line xs ≡ true → 0 < length xs
@@ -68,6 +70,29 @@ gap_stop j (x ∷ xs) h = rw (h, gap) refl
 pub gap_on : (j : Bool) (xs : List ℕ) (end n : ℕ) → n ≡ pass j (drop end xs) → 0 < n → end + n + gap j 0 (drop (end + n) xs) ≡ end + gap j 0 (drop end xs)
 gap_on j xs end zero h pos = absurd (omega arith)
 gap_on j xs end (suc n) h pos = omega (arith, gap_step j (drop end xs) n (sym h), ap (gap j 0) (drop-drop (suc n) end xs))
+
+plain_no_end : (b : ℕ) (bs : List ℕ) → is_plain b ≡ true → line_end (b ∷ bs) ≡ 0
+unfolding line_end
+plain_no_end b bs h =
+    let feed : eqb b 10 ≡ false = grind (arith, nat_tests) in
+    let carriage : eqb b 13 ≡ false = grind (arith, nat_tests) in
+    rw (feed, carriage) refl
+
+line_step : (x : ℕ) (xs : List ℕ) → line_end (x ∷ xs) ≡ 0 → line_len (x ∷ xs) ≡ suc (line_len xs)
+unfolding line_len
+line_step x xs e = rw e refl
+
+line_plain_by : (x : ℕ) (xs : List ℕ) (b : Bool) → b ≡ is_plain x → line_len xs ≡ prefix_len is_plain xs + line_len (drop (prefix_len is_plain xs) xs) → line_len (x ∷ xs) ≡ cond b (1 + prefix_len is_plain xs) 0 + line_len (drop (cond b (1 + prefix_len is_plain xs) 0) (x ∷ xs))
+line_plain_by x xs true e h = simp one-add (omega (arith, line_step x xs (plain_no_end x xs (sym e)), h))
+line_plain_by x xs false e h = omega arith
+
+line_plain : (xs : List ℕ) → line_len xs ≡ prefix_len is_plain xs + line_len (drop (prefix_len is_plain xs) xs)
+unfolding line_len
+line_plain [] = omega arith
+line_plain (x ∷ xs) = line_plain_by x xs (is_plain x) refl (line_plain xs)
+
+pub line_past_plain : (xs : List ℕ) (end n : ℕ) → n ≡ prefix_len is_plain (drop end xs) → end + n + line_len (drop (end + n) xs) ≡ end + line_len (drop end xs)
+line_past_plain xs end n h = rw h (omega (arith, line_plain (drop end xs), ap line_len (drop-drop (prefix_len is_plain (drop end xs)) end xs)))
 
 pub line_on : (xs : List ℕ) (end : ℕ) → end < length xs → line_end (drop end xs) ≡ 0 → end + 1 + line_len (drop (end + 1) xs) ≡ end + line_len (drop end xs)
 unfolding line_len

@@ -1,4 +1,5 @@
 pub mod Runs
+pub mod Lanes
 pub mod Gaps
 pub mod Modes
 pub mod Numbers
@@ -20,6 +21,7 @@ pub mod Depth
 pub mod Widths
 pub mod Stacks
 pub mod Cuts
+pub mod Paid
 pub mod Machine
 pub mod Rules
 pub mod Whole

@@ -1,5 +1,5 @@
 -- The prefix and quotes at the front of a text, as the code finds them.
-use Rattle.std.specs.Prelude.{ℕ, ◌+◌, Bool, true, false, not, ◌||◌, ◌&&◌, if◌then◌else◌, ◌==◌, ◌≤◌, List, [], ◌∷◌, length, take, drop, Option, Some, None}
+use Rattle.std.specs.Prelude.{ℕ, ◌+◌, ◌*◌, Bool, true, false, not, ◌||◌, ◌&&◌, if◌then◌else◌, ◌==◌, ◌≤◌, List, [], ◌∷◌, length, take, drop, Option, Some, None}
 use Rattle.std.specs.Char.{encode_utf8}
 use Rattle.std.specs.Str.{IsCharBoundary}
 use Rattle.starlark_lexer.specs.declared.literal.Ending.{Ending}
@@ -107,3 +107,35 @@ abbrev pub IsBytes : Piece → List ℕ → Type 0
 IsBytes (Same n) rest = n ≤ length rest
 IsBytes (Char c n) rest = ⊥
 IsBytes _ rest = Unit {0}
+
+-- how many looks find a piece at most
+abbrev pub due : Piece → ℕ
+due Closing = 3
+due Field = 4
+due Stop = 3
+due (Wrong n) = n + 13
+due (Nothing n) = n + 4
+due (Char c n) = n + 4
+due (Byte b n) = n + 4
+due (Same n) = n + 5
+
+-- how many bytes a piece has that is no escape
+abbrev pub wrong_len : Piece → ℕ
+wrong_len (Wrong n) = n
+wrong_len _ = 0
+
+-- how many looks find the end of a body at most
+abbrev pub owed : Ending → ℕ
+owed (ending.Closed i) = 8 * i + 4
+owed (ending.Field i) = 8 * i + 5
+owed (ending.Unfinished i) = 8 * i + 4
+owed (ending.Escape i m) = 8 * i + m + 14
+
+-- how many looks tell whether a literal begins with the text
+abbrev pub tried : List ℕ → Option (Form × ℕ) → ℕ
+tried w None = if may_open w then 6 else 1
+tried w (Some r) = 8
+
+-- how many looks were made, or are still to be made, where the first byte begins no number: for a prefix that opens nothing, or for a backslash that escapes nothing
+abbrev pub aside : List ℕ → ℕ
+aside w = if may_open w then 5 else (if begins 92 w then 2 else 0)

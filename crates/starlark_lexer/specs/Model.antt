@@ -9,7 +9,7 @@ use Rattle.starlark_lexer.specs.declared.token.Token.{Token}
 use Rattle.starlark_lexer.specs.declared.token.LexemeError.{LexemeError}
 use Rattle.starlark_lexer.specs.declared.lexer.Lexer.TheInside.{Inside}
 use Rattle.starlark_lexer.specs.Items.{Lexed, nothing, lexeme_of, with_item, Stop, LacksMemory}
-use Rattle.starlark_lexer.specs.Parts.{left, IsWhole}
+use Rattle.starlark_lexer.specs.Parts.{left, IsWhole, IsPaid}
 use Rattle.starlark_lexer.specs.Reads.{Grows}
 
 -- a lexer as its callers see it
@@ -36,6 +36,8 @@ pub record IsLexer (a : Inside) : Type 0 where
   pub fits : length a.parts.text.now ≤ 4294967295
   -- each byte that was passed is counted
   pub counted : a.parts.state.place ≤ a.parts.reads
+  -- and not too often
+  pub paid : IsPaid a.parts
 
 -- the fault is what is left, at its place in the source, with no calls
 pub record IsFault (file : File) (old : Lexed) (fault : WithDiagnostic LexemeError) : Type 0 where

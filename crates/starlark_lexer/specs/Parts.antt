@@ -1,5 +1,5 @@
 -- What is left to a lexer, by its parts.
-use Rattle.std.specs.Prelude.{◌≡◌, ◌≤◌, ◌+◌, ◌-◌, ℕ, true, false, if◌then◌else◌, List, [], ◌∷◌, drop, Option, Some, None, Result, Ok, Err}
+use Rattle.std.specs.Prelude.{◌≡◌, ◌≤◌, ◌+◌, ◌-◌, ◌*◌, ℕ, true, false, if◌then◌else◌, List, [], ◌∷◌, drop, length, Option, Some, None, Result, Ok, Err}
 use Rattle.std.specs.Str.{IsCharBoundary}
 use Rattle.starlark_lexer.specs.declared.token.Token.{Token}
 use Rattle.starlark_lexer.specs.declared.scan.Mode.{Mode}
@@ -13,7 +13,7 @@ use Rattle.starlark_lexer.specs.Items.{Lexed, nothing, lexeme_of, with_item, wit
 use Rattle.starlark_lexer.specs.Literals.{is_format}
 use Rattle.starlark_lexer.specs.Scan.{At, left_at, act, step, pass, is_joined}
 use Rattle.starlark_lexer.specs.Reads.{Grows}
-use Rattle.starlark_lexer.specs.Turns.{Cuts, Bounds, Keeps}
+use Rattle.starlark_lexer.specs.Turns.{Cuts, Bounds, Keeps, room}
 
 abbrev pub at : Parts → At
 at a = record { state = a.state; widths = a.widths.items; outer = a.outer.items; rest = drop a.state.place a.text.now }
@@ -100,6 +100,15 @@ pub record Advances (a b : Parts) (n : ℕ) : Type 0 where
 pub record Moves (a b : Parts) : Type 0 where
   pub on : a.state.place ≤ b.state.place
   pub looked : Grows a.reads (b.state.place - a.state.place) b.reads
+
+-- At most 16 looks were made for each byte that was passed, and 2 more within a line; 16 more of the whole text where it is over.
+pub record IsPaid (a : Parts) : Type 0 where
+  pub most : a.over ≡ false → a.reads + (if a.state.fresh then 2 else 0) ≤ 16 * a.state.place + 2
+  pub all : a.reads ≤ 16 * length a.text.now + 16
+
+-- so many looks were made for the turn that comes, too
+abbrev pub Covers : Parts → Turn → Type 0
+Covers a t = a.reads ≤ 16 * a.state.place + room t
 
 -- an item that is handed out ends at or before the place
 abbrev pub Reaches : Option (Result (ℕ × Token × ℕ) Fault) → ℕ → Type 0

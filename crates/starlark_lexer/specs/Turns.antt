@@ -1,5 +1,5 @@
 -- What is left to a lexer.
-use Rattle.std.specs.Prelude.{◌≡◌, ◌≤◌, ◌<◌, ◌+◌, ℕ, true, false, List, length, take, drop}
+use Rattle.std.specs.Prelude.{◌≡◌, ◌≤◌, ◌<◌, ◌+◌, ◌*◌, ℕ, true, false, if◌then◌else◌, List, length, take, drop}
 use Rattle.std.specs.Str.{IsCharBoundary}
 use Rattle.starlark_lexer.specs.Literals.{is_bytes, is_format}
 use Rattle.starlark_lexer.specs.declared.scan.Kind.{Kind}
@@ -24,6 +24,20 @@ pub record IsWithin (rest : List ℕ) (i n next : ℕ) : Type 0 where
   pub some : 0 < n
   pub fits : i + n ≤ next
   pub within : next ≤ length rest
+
+-- How many looks find a turn at most: 16 for each byte that is passed, or that a fault spans, with 2 for a line that has begun, and with 16 where the text is over.
+abbrev pub room : Turn → ℕ
+room (turns.Gives i k n next f) = 16 * next + (if f then 0 else 2)
+room (turns.Deeper w g) = 16 * g + 2
+room (turns.Fits n g) = 16 * g + 2
+room (turns.End g) = 16 * g + 16
+room (turns.Tab g) = 16 * g + 16
+room (turns.Fault i e n) = 16 * (i + n) + 16
+room (turns.Enter f n) = 16 * n + 2
+room (turns.Leave n) = 16 * n + 2
+room turns.Open = 18
+room turns.Shut = 18
+room (turns.Unfinished n) = 16 * n + 16
 
 abbrev pub Cuts : List ℕ → Turn → Type 0
 Cuts rest (turns.Gives i k n next f) = IsWithin rest i n next

@@ -105,6 +105,7 @@ pub(crate) fn front(bytes: &[u8], most: usize) -> &[u8]
 /// A backslash with what stands behind it, which is no escape.
 fn no_escape(rest: &[u8], reads: &mut u64) -> Piece
     ensures value { result ≡ spec.no_escape rest.now }
+    ensures paid { reads.new ≤ reads.old + fronts.wrong_len result }
     ensures looked { Grows reads.old 0 reads.new }
     ensures item { fronts.is_item result ≡ true }
 {
@@ -115,6 +116,7 @@ fn no_escape(rest: &[u8], reads: &mut u64) -> Piece
 fn escaped(sort: Sort, value: u32, len: usize, rest: &[u8], reads: &mut u64) -> Piece
     ensures value { result ≡ spec.escaped sort value len rest.now }
     ensures short { fronts.width result ≤ len }
+    ensures paid { reads.new ≤ reads.old + fronts.wrong_len result }
     ensures looked { Grows reads.old 0 reads.new }
     ensures item { fronts.is_item result ≡ true }
 {
@@ -161,6 +163,7 @@ fn hex_escape(sort: Sort, len: usize, rest: &[u8], reads: &mut u64) -> Piece
     requires some { 0 < length rest.now }
     requires short { len ≤ 8 }
     ensures value { result ≡ spec.hex_escape sort len rest.now }
+    ensures paid { reads.new + 2 ≤ reads.old + fronts.due result }
     ensures looked { Grows reads.old (fronts.width result - 2) reads.new }
     ensures item { fronts.is_item result ≡ true }
 {
@@ -174,6 +177,7 @@ fn hex_escape(sort: Sort, len: usize, rest: &[u8], reads: &mut u64) -> Piece
 
 fn octal_escape(sort: Sort, rest: &[u8], reads: &mut u64) -> Piece
     ensures value { result ≡ spec.octal_escape sort rest.now }
+    ensures paid { reads.new + 2 ≤ reads.old + fronts.due result }
     ensures looked { Grows reads.old (fronts.width result - 1) reads.new }
     ensures item { fronts.is_item result ≡ true }
 {
@@ -185,6 +189,7 @@ fn octal_escape(sort: Sort, rest: &[u8], reads: &mut u64) -> Piece
 fn other_escape(sort: Sort, c: u8, rest: &[u8], reads: &mut u64) -> Piece
     requires some { 0 < length rest.now }
     ensures value { result ≡ spec.other_escape sort c rest.now }
+    ensures paid { reads.new + 2 ≤ reads.old + fronts.due result }
     ensures looked { Grows reads.old (fronts.width result - 2) reads.new }
     ensures item { fronts.is_item result ≡ true }
 {
@@ -208,6 +213,7 @@ fn other_escape(sort: Sort, c: u8, rest: &[u8], reads: &mut u64) -> Piece
 #[tactic(auto, unfolding(crate::specs::Literals::escape))]
 pub(crate) fn escape(sort: Sort, rest: &[u8], reads: &mut u64) -> Piece
     ensures value { result ≡ spec.escape sort rest.now }
+    ensures paid { reads.new + 1 ≤ reads.old + fronts.due result }
     ensures looked { Grows reads.old (fronts.width result - 1) reads.new }
     ensures item { fronts.is_item result ≡ true }
 {
@@ -225,6 +231,7 @@ pub(crate) fn escape(sort: Sort, rest: &[u8], reads: &mut u64) -> Piece
 #[tactic(auto, unfolding(crate::specs::Literals::raw_escape))]
 pub(crate) fn raw_escape(sort: Sort, rest: &[u8], reads: &mut u64) -> Piece
     ensures value { result ≡ spec.raw_escape sort rest.now }
+    ensures paid { reads.new + 1 ≤ reads.old + fronts.due result }
     ensures looked { Grows reads.old (fronts.width result - 1) reads.new }
     ensures item { fronts.is_item result ≡ true }
 {

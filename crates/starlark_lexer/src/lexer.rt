@@ -1,6 +1,6 @@
 //! The lexer, which hands out one lexeme at a time.
 
-ghost use Rattle.std.specs.Prelude.{◌≡◌, ◌≤◌, length};
+ghost use Rattle.std.specs.Prelude.{◌≡◌, ◌≤◌, ◌+◌, ◌*◌, length};
 ghost use Rattle.starlark_lexer.specs.Lex.{Lex, start};
 ghost use Rattle.starlark_lexer.specs.Model.{Counts, Gives, Within};
 ghost use Rattle.starlark_lexer.specs.Parts.{IsStretch};
@@ -99,10 +99,12 @@ impl<'a> Lexer<'a> {
     }
 
     /// How many looks at bytes the scanner has counted so far. It never falls, and it is at least the number of bytes that
-    /// are cut: behind the last lexeme of a text without fault, the bytes of the text. The sum stops at the greatest `u64`.
+    /// are cut: behind the last lexeme of a text without fault, the bytes of the text. It is at most 16 times the bytes of
+    /// the text and 16 more.
     pub fn reads(&self) -> u64
         ensures value { result ≡ self.now.reads }
         ensures least { self.now.place ≤ result }
+        ensures most { result ≤ 16 * self.now.size + 16 }
     {
         self.parts.reads
     }

@@ -2,11 +2,13 @@
 
 ghost use Rattle.std.specs.Prelude.{◌≡◌, ◌≤◌, ◌<◌, ◌+◌, ◌-◌, ◌*◌, ◌⊎◌, ◌++◌, if◌then◌else◌, IfOk, OnOk, length, take, drop, true, false};
 ghost use Rattle.std.specs.List.{prefix_len};
+ghost use Rattle.std.specs.Option.{is_some};
 ghost use Rattle.std.specs.String.{string_bytes};
 ghost use Rattle.starlark_lexer.specs.Fronts as fronts;
 ghost use Rattle.starlark_lexer.specs.Literals as spec;
 ghost use Rattle.starlark_lexer.specs.Reads.{Grows};
 
+use crate::blocks::plain_len;
 use crate::escape::{begins, escape, front, look, raw_escape};
 use crate::token::FStringQuote;
 use std::alloc::{AllocError, Global};
@@ -92,6 +94,7 @@ pub(crate) fn is_format(sort: Sort) -> bool
 /// Behind a mark stand the others of the quotes.
 fn goes_on(quote: FStringQuote, rest: &[u8], reads: &mut u64) -> bool
     ensures value { result ≡ spec.goes_on quote rest.now }
+    ensures paid { reads.new ≤ reads.old + 2 }
     ensures looked { Grows reads.old (if result then spec.quotes quote - 1 else 0) reads.new }
 {
     if !is_triple(quote) {
@@ -104,6 +107,7 @@ fn goes_on(quote: FStringQuote, rest: &[u8], reads: &mut u64) -> bool
 fn brace(b: u8, rest: &[u8], reads: &mut u64) -> Piece
     requires some { b ≡ 123 ⊎ b ≡ 125 }
     ensures value { result ≡ spec.brace b rest.now }
+    ensures paid { reads.new ≤ reads.old + 1 }
     ensures looked { Grows reads.old (fronts.width result - 1) reads.new }
 {
     if begins(b, rest, reads) {
@@ -119,6 +123,7 @@ fn brace(b: u8, rest: &[u8], reads: &mut u64) -> Piece
 #[tactic(auto, using(crate::proofs::Looks::item_passed), unfolding(crate::specs::Literals::piece))]
 fn next_piece(form: Form, bytes: &[u8], reads: &mut u64) -> Piece
     ensures value { result ≡ spec.piece form bytes.now }
+    ensures paid { reads.new ≤ reads.old + fronts.due result }
     ensures looked { Grows reads.old (fronts.passed form.quote result) reads.new }
 {
     if bytes.is_empty() {
@@ -169,6 +174,7 @@ fn width(piece: Piece) -> usize
 /// How the body ends that begins with the bytes. It takes no memory.
 pub(crate) fn body(form: Form, bytes: &[u8], reads: &mut u64) -> Ending
     ensures value { result ≡ spec.body form 0 bytes.now }
+    ensures paid { reads.new ≤ reads.old + fronts.owed result }
     ensures looked { Grows reads.old (fronts.reached form.quote result) reads.new }
 {
     let mut at = 0;
@@ -193,24 +199,6 @@ fn plain_run(bytes: &[u8], reads: &mut u64) -> usize
     let len = plain_len(bytes);
     *reads = reads.saturating_add(len as u64).saturating_add(1);
     len
-}
-
-fn is_plain(b: u8) -> bool
-    ensures { result ≡ fronts.is_plain b }
-{
-    // most bytes of most bodies are such letters
-    b.is_ascii_lowercase() || !matches!(b, b'\n' | b'\r' | b'"' | b'\'' | b'\\' | b'{' | b'}')
-}
-
-fn plain_len(bytes: &[u8]) -> usize
-    ensures value { result ≡ prefix_len fronts.is_plain bytes.now }
-    ensures within { result ≤ length bytes.now }
-{
-    let mut end = 0;
-    while end < bytes.len() && is_plain(bytes[end]) {
-        end += 1;
-    }
-    end
 }
 
 /// The plain front of a text, and the rest.
@@ -327,6 +315,7 @@ fn prefix(letters: &[u8]) -> Option<(Sort, bool)>
 /// The longest quotes at the front.
 fn quote_front(bytes: &[u8], reads: &mut u64) -> Option<FStringQuote>
     ensures value { result ≡ fronts.quote_front bytes.now }
+    ensures paid { reads.new ≤ reads.old + 1 + (if is_some result then 2 else 0) }
     ensures looked { Grows reads.old (fronts.quotes_len result) reads.new }
 {
     if bytes.is_empty() {
@@ -357,6 +346,7 @@ fn may_open(bytes: &[u8]) -> bool
 /// The longest prefix and quotes at the front, and how many bytes they have.
 pub(crate) fn opening(bytes: &[u8], reads: &mut u64) -> Option<(Form, usize)>
     ensures value { result ≡ fronts.opening_front bytes.now }
+    ensures paid { reads.new ≤ reads.old + fronts.tried bytes.now result }
     ensures looked { Grows reads.old (fronts.opening_len result) reads.new }
 {
     look(reads);

@@ -109,6 +109,7 @@ fn literal(alloc: Global, form: Form, body: &str) -> Result<Token, AllocError>
 
 #[tactic(auto, using(crate::proofs::Numbers::big_takes))]
 /// The token of a lexeme with that text. `Err` comes only where the token holds memory.
+#[inline(always)]
 pub(crate) fn token(alloc: Global, kind: Kind, text: &str) -> Result<Token, AllocError>
     requires { Slices kind text.now }
     ensures { MatchResult result (λ t. lexeme_of t ≡ lexeme_from kind text.now) (λ _. takes_memory (lexeme_from kind text.now) ≡ true) }

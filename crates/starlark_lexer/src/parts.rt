@@ -1,18 +1,20 @@
 //! A lexer's parts, and one call of it.
 
-ghost use Rattle.std.specs.Prelude.{◌≡◌, ◌<◌, ◌≤◌, ◌+◌, ◌*◌, ◌^◌, length, IfOk, true, false, Some};
+ghost use Rattle.std.specs.Prelude.{◌≡◌, ◌<◌, ◌≤◌, ◌+◌, ◌*◌, ◌^◌, length, drop, if◌then◌else◌, IfOk, true, false, Some};
+ghost use Rattle.starlark_lexer.specs.Classes.{begins};
 ghost use Rattle.starlark_lexer.specs.Items.{lexeme_of, answers, with_fault};
 ghost use Rattle.starlark_lexer.specs.Literals.{is_bytes};
 ghost use Rattle.starlark_lexer.specs.Scan.{lexeme_from, in_text};
-ghost use Rattle.starlark_lexer.specs.Turns.{IsLexical, passed};
+ghost use Rattle.starlark_lexer.specs.Turns.{IsLexical, passed, room};
 ghost use Rattle.starlark_lexer.specs.declared.scan.Turn.TheVariants.{End, Gives, Enter, Fits, Deeper, Leave};
 ghost use Rattle.starlark_lexer.specs.declared.scan.Mode.TheVariants.{Inside};
-ghost use Rattle.starlark_lexer.specs.Parts.{left, Begins, Hands, Spans, IsStretch, IsWhole, IsReady, Comes, Stands, Advances, Moves, Reaches};
+ghost use Rattle.starlark_lexer.specs.Parts.{left, Begins, Hands, Spans, IsStretch, IsWhole, IsReady, Comes, Stands, Advances, Moves, Reaches, IsPaid, Covers};
 ghost use Rattle.starlark_lexer.specs.Reads.{Grows};
 
+use crate::layout::line_turn;
 use crate::literal::Form;
 use crate::making::token;
-use crate::scan::{Kind, Mode, State, Turn, gap, here, line_turn, text_here};
+use crate::scan::{Kind, Mode, State, Turn, gap, here, text_here};
 use crate::state::{after, begin_of, body_of, field_of, in_text, is_joined, pop, turned};
 use crate::token::{LexemeError, Token};
 use std::alloc::Global;
@@ -48,16 +50,19 @@ pub(crate) struct Parts<'a> {
 }
 
 /// Hands out what comes, and goes on behind it.
+#[inline(always)]
 fn hand_out(parts: &mut Parts, turn: Turn) -> Answer
     requires whole { IsWhole parts.old }
     requires ready { IsReady parts.old }
     requires comes { Comes parts.old turn }
     requires lexical { IsLexical turn }
+    requires paid { Covers parts.old turn }
     ensures whole { IsWhole parts.new }
     ensures text { parts.new.text.now ≡ parts.old.text.now }
     ensures gives { Hands (left parts.old) (Some result) (left parts.new) }
     ensures spans { Spans parts.old.text.now (Some result) }
     ensures goes { Advances parts.old parts.new (passed turn) }
+    ensures paid { IsPaid parts.new }
     ensures reaches { Reaches (Some result) parts.new.state.place }
 {
     let place = parts.state.place;
@@ -101,11 +106,13 @@ fn finish(parts: &mut Parts, turn: Turn, gap: usize) -> Answer
     requires ready { IsReady parts.old }
     requires comes { Comes parts.old turn }
     requires is { turn ≡ End gap }
+    requires paid { Covers parts.old turn }
     ensures whole { IsWhole parts.new }
     ensures text { parts.new.text.now ≡ parts.old.text.now }
     ensures gives { Hands (left parts.old) (Some result) (left parts.new) }
     ensures spans { Spans parts.old.text.now (Some result) }
     ensures goes { Advances parts.old parts.new (passed turn) }
+    ensures paid { IsPaid parts.new }
     ensures reaches { Reaches (Some result) parts.new.state.place }
 {
     let end = parts.text.as_bytes().len();
@@ -122,11 +129,13 @@ fn refuse(parts: &mut Parts, begin: usize, error: LexemeError, end: usize) -> An
     requires ready { IsReady parts.old }
     requires is { left parts.old ≡ with_fault begin error end }
     requires stretch { IsStretch parts.old.text.now begin end }
+    requires paid { parts.old.reads ≤ 16 * length parts.old.text.now + 16 }
     ensures whole { IsWhole parts.new }
     ensures text { parts.new.text.now ≡ parts.old.text.now }
     ensures gives { Hands (left parts.old) (Some result) (left parts.new) }
     ensures spans { Spans parts.old.text.now (Some result) }
     ensures goes { Advances parts.old parts.new 0 }
+    ensures paid { IsPaid parts.new }
     ensures reaches { Reaches (Some result) parts.new.state.place }
 {
     parts.over = true;
@@ -134,6 +143,7 @@ fn refuse(parts: &mut Parts, begin: usize, error: LexemeError, end: usize) -> An
 }
 
 /// Hands out a lexeme.
+#[inline(always)]
 fn give(
     parts: &mut Parts,
     turn: Turn,
@@ -147,11 +157,13 @@ fn give(
     requires ready { IsReady parts.old }
     requires comes { Comes parts.old turn }
     requires is { turn ≡ Gives begin kind len next fresh }
+    requires paid { Covers parts.old turn }
     ensures whole { IsWhole parts.new }
     ensures text { parts.new.text.now ≡ parts.old.text.now }
     ensures gives { Hands (left parts.old) (Some result) (left parts.new) }
     ensures spans { Spans parts.old.text.now (Some result) }
     ensures goes { Advances parts.old parts.new (passed turn) }
+    ensures paid { IsPaid parts.new }
     ensures reaches { Reaches (Some result) parts.new.state.place }
 {
     let place = parts.state.place;
@@ -175,11 +187,13 @@ fn enter(parts: &mut Parts, turn: Turn, form: Form, len: usize) -> Answer
     requires ready { IsReady parts.old }
     requires comes { Comes parts.old turn }
     requires is { turn ≡ Enter form len }
+    requires paid { Covers parts.old turn }
     ensures whole { IsWhole parts.new }
     ensures text { parts.new.text.now ≡ parts.old.text.now }
     ensures gives { Hands (left parts.old) (Some result) (left parts.new) }
     ensures spans { Spans parts.old.text.now (Some result) }
     ensures goes { Advances parts.old parts.new (passed turn) }
+    ensures paid { IsPaid parts.new }
     ensures reaches { Reaches (Some result) parts.new.state.place }
 {
     let place = parts.state.place;
@@ -197,11 +211,13 @@ fn leave(parts: &mut Parts, turn: Turn, len: usize) -> Answer
     requires ready { IsReady parts.old }
     requires comes { Comes parts.old turn }
     requires is { turn ≡ Leave len }
+    requires paid { Covers parts.old turn }
     ensures whole { IsWhole parts.new }
     ensures text { parts.new.text.now ≡ parts.old.text.now }
     ensures gives { Hands (left parts.old) (Some result) (left parts.new) }
     ensures spans { Spans parts.old.text.now (Some result) }
     ensures goes { Advances parts.old parts.new (passed turn) }
+    ensures paid { IsPaid parts.new }
     ensures reaches { Reaches (Some result) parts.new.state.place }
 {
     let place = parts.state.place;
@@ -215,6 +231,7 @@ fn line_ahead(parts: &Parts, reads: &mut u64) -> Turn
     requires whole { IsWhole parts.now }
     requires fresh { parts.now.state.fresh ≡ true }
     ensures comes { Comes parts.now result }
+    ensures paid { reads.new ≤ reads.old + room result }
     ensures looked { Grows reads.old (passed result) reads.new }
 {
     let bytes = parts.text.as_bytes();
@@ -226,11 +243,13 @@ fn begin_line(parts: &mut Parts) -> Option<Answer>
     requires whole { IsWhole parts.old }
     requires ready { IsReady parts.old }
     requires fresh { parts.old.state.fresh ≡ true }
+    requires paid { IsPaid parts.old }
     ensures whole { IsWhole parts.new }
     ensures text { parts.new.text.now ≡ parts.old.text.now }
     ensures gives { Begins parts.old result parts.new }
     ensures spans { Spans parts.old.text.now result }
     ensures moves { Moves parts.old parts.new }
+    ensures paid { IsPaid parts.new }
     ensures reaches { Reaches result parts.new.state.place }
 {
     let mut reads = parts.reads;
@@ -249,11 +268,13 @@ fn fit(parts: &mut Parts, turn: Turn, kept: usize, gap: usize) -> Option<Answer>
     requires ready { IsReady parts.old }
     requires comes { Comes parts.old turn }
     requires is { turn ≡ Fits kept gap }
+    requires paid { Covers parts.old turn }
     ensures whole { IsWhole parts.new }
     ensures text { parts.new.text.now ≡ parts.old.text.now }
     ensures gives { Begins parts.old result parts.new }
     ensures spans { Spans parts.old.text.now result }
     ensures goes { Advances parts.old parts.new (passed turn) }
+    ensures paid { IsPaid parts.new }
     ensures reaches { Reaches result parts.new.state.place }
 {
     let place = parts.state.place;
@@ -274,11 +295,13 @@ fn deepen(parts: &mut Parts, turn: Turn, width: usize, gap: usize) -> Answer
     requires ready { IsReady parts.old }
     requires comes { Comes parts.old turn }
     requires is { turn ≡ Deeper width gap }
+    requires paid { Covers parts.old turn }
     ensures whole { IsWhole parts.new }
     ensures text { parts.new.text.now ≡ parts.old.text.now }
     ensures gives { Hands (left parts.old) (Some result) (left parts.new) }
     ensures spans { Spans parts.old.text.now (Some result) }
     ensures goes { Advances parts.old parts.new (passed turn) }
+    ensures paid { IsPaid parts.new }
     ensures reaches { Reaches (Some result) parts.new.state.place }
 {
     let place = parts.state.place;
@@ -296,6 +319,7 @@ fn pass_over(parts: &mut Parts)
     requires ready { IsReady parts.old }
     requires within { parts.old.state.fresh ≡ false }
     requires among { in_text parts.old.state.mode ≡ false }
+    requires paid { IsPaid parts.old }
     ensures whole { IsWhole parts.new }
     ensures text { parts.new.text.now ≡ parts.old.text.now }
     ensures among { in_text parts.new.state.mode ≡ false }
@@ -303,6 +327,7 @@ fn pass_over(parts: &mut Parts)
     ensures ready { IsReady parts.new }
     ensures stands { Stands parts.new }
     ensures moves { Moves parts.old parts.new }
+    ensures paid { parts.new.reads ≤ 16 * parts.new.state.place + 3 + (if begins 92 (drop parts.new.state.place parts.new.text.now) then 2 else 0) }
 {
     let joined = is_joined(parts.state);
     let bytes = parts.text.as_bytes();
@@ -319,6 +344,7 @@ fn lexeme_ahead(parts: &Parts, reads: &mut u64) -> Turn
     requires among { in_text parts.now.state.mode ≡ false }
     ensures comes { Comes parts.now result }
     ensures lexical { IsLexical result }
+    ensures paid { reads.new + 3 + (if begins 92 (drop parts.now.state.place parts.now.text.now) then 2 else 0) ≤ reads.old + room result }
     ensures looked { Grows reads.old (passed result) reads.new }
 {
     let bytes = parts.text.as_bytes();
@@ -332,6 +358,7 @@ fn text_ahead(parts: &Parts, begin: usize, form: Form, reads: &mut u64) -> Turn
     requires mode { parts.now.state.mode ≡ Inside begin form }
     ensures comes { Comes parts.now result }
     ensures lexical { IsLexical result }
+    ensures paid { reads.new + 2 ≤ reads.old + room result }
     ensures looked { Grows reads.old (passed result) reads.new }
 {
     let bytes = parts.text.as_bytes();
@@ -344,11 +371,13 @@ fn in_format(parts: &mut Parts, begin: usize, form: Form) -> Answer
     requires ready { IsReady parts.old }
     requires within { parts.old.state.fresh ≡ false }
     requires mode { parts.old.state.mode ≡ Inside begin form }
+    requires paid { IsPaid parts.old }
     ensures whole { IsWhole parts.new }
     ensures text { parts.new.text.now ≡ parts.old.text.now }
     ensures gives { Hands (left parts.old) (Some result) (left parts.new) }
     ensures spans { Spans parts.old.text.now (Some result) }
     ensures moves { Moves parts.old parts.new }
+    ensures paid { IsPaid parts.new }
     ensures reaches { Reaches (Some result) parts.new.state.place }
 {
     let mut reads = parts.reads;
@@ -363,11 +392,13 @@ fn in_code(parts: &mut Parts) -> Answer
     requires ready { IsReady parts.old }
     requires within { parts.old.state.fresh ≡ false }
     requires among { in_text parts.old.state.mode ≡ false }
+    requires paid { IsPaid parts.old }
     ensures whole { IsWhole parts.new }
     ensures text { parts.new.text.now ≡ parts.old.text.now }
     ensures gives { Hands (left parts.old) (Some result) (left parts.new) }
     ensures spans { Spans parts.old.text.now (Some result) }
     ensures moves { Moves parts.old parts.new }
+    ensures paid { IsPaid parts.new }
     ensures reaches { Reaches (Some result) parts.new.state.place }
 {
     pass_over(parts);
@@ -382,28 +413,31 @@ fn in_line(parts: &mut Parts) -> Answer
     requires whole { IsWhole parts.old }
     requires ready { IsReady parts.old }
     requires within { parts.old.state.fresh ≡ false }
+    requires paid { IsPaid parts.old }
     ensures whole { IsWhole parts.new }
     ensures text { parts.new.text.now ≡ parts.old.text.now }
     ensures gives { Hands (left parts.old) (Some result) (left parts.new) }
     ensures spans { Spans parts.old.text.now (Some result) }
     ensures moves { Moves parts.old parts.new }
+    ensures paid { IsPaid parts.new }
     ensures reaches { Reaches (Some result) parts.new.state.place }
 {
     match parts.state.mode {
         Mode::Inside(begin, form) => in_format(parts, begin, form),
-        Mode::Code => in_code(parts),
-        Mode::Field(_, _, _) => in_code(parts),
+        _ => in_code(parts),
     }
 }
 
 /// The next lexeme or the fault. After the first `Err` it answers `None`.
 pub(crate) fn next(parts: &mut Parts) -> Option<Answer>
     requires whole { IsWhole parts.old }
+    requires paid { IsPaid parts.old }
     ensures whole { IsWhole parts.new }
     ensures text { parts.new.text.now ≡ parts.old.text.now }
     ensures gives { Hands (left parts.old) result (left parts.new) }
     ensures spans { Spans parts.old.text.now result }
     ensures moves { Moves parts.old parts.new }
+    ensures paid { IsPaid parts.new }
     ensures reaches { Reaches result parts.new.state.place }
 {
     if parts.pending > 0 {

@@ -1,6 +1,6 @@
 //! Finds the next lexeme of a text, without memory.
 
-ghost use Rattle.std.specs.Prelude.{Some, None, [], ◌∷◌, IfSome, ◌≡◌, ◌<◌, ◌≤◌, ◌+◌, ◌-◌, ◌*◌, ◌^◌, length, drop, take, slice_index, slice_range, map, true, false, count_by};
+ghost use Rattle.std.specs.Prelude.{Some, None, IfSome, ◌≡◌, ◌<◌, ◌≤◌, ◌+◌, ◌-◌, ◌*◌, ◌^◌, length, drop, slice_index, true, false, if◌then◌else◌, ◌==◌};
 ghost use Rattle.std.specs.Str.{bytes_eq};
 ghost use Rattle.std.specs.Char.{is_ascii_digit};
 ghost use Rattle.std.specs.List.{list_all, list_any, prefix_len};
@@ -10,8 +10,9 @@ ghost use Rattle.starlark_lexer.specs.Scan.{depth_of, IsClass, IsEnding};
 ghost use Rattle.starlark_lexer.specs.Literals as literals;
 ghost use Rattle.starlark_lexer.specs.Fronts as fronts;
 ghost use Rattle.starlark_lexer.specs.Reads.{Grows};
-ghost use Rattle.starlark_lexer.specs.Turns.{passed};
+ghost use Rattle.starlark_lexer.specs.Turns.{passed, room};
 
+use crate::blocks::{is_word_byte, plain_len, word_len};
 use crate::literal::{Ending, Form, body, is_format, opening, quotes};
 use crate::token::LexemeError;
 use crate::words::{
@@ -99,7 +100,7 @@ pub(crate) enum Turn {
 }
 
 /// Counts so many bytes as looked at.
-fn look(reads: &mut u64, n: usize)
+pub(crate) fn look(reads: &mut u64, n: usize)
     ensures paid { reads.new ≤ reads.old + n }
     ensures looked { Grows reads.old n reads.new }
 {
@@ -112,26 +113,40 @@ fn is_in(class: Class, b: u8) -> bool
 {
     match class {
         Class::Blank => b == b' ' || b == b'\t' || b == b'\r',
-        Class::Word => b.is_ascii_alphabetic() || b == b'_' || b.is_ascii_digit(),
+        Class::Word => is_word_byte(b),
         Class::Digit => b.is_ascii_digit(),
         Class::Based(radix) => (b as char).is_digit(radix),
         Class::Continuation => 128 <= b && b < 192,
     }
 }
 
-#[tactic(auto, using(crate::proofs::Runs::run_nonempty))]
-// How many bytes at the front are of the class.
-fn run(class: Class, bytes: &[u8], reads: &mut u64) -> usize
+/// How many bytes at the front are of the class. None is counted.
+fn run_len(class: Class, bytes: &[u8]) -> usize
     requires { IsClass class }
     ensures value { result ≡ prefix_len (spec.is_in class) bytes.now }
     ensures within { result ≤ length bytes.now }
-    ensures moves { 0 < length bytes.now → spec.is_in class (slice_index bytes.now 0) ≡ true → 0 < result }
-    ensures looked { Grows reads.old result reads.new }
 {
     let mut end = 0;
     while end < bytes.len() && is_in(class, bytes[end]) {
         end += 1;
     }
+    end
+}
+
+#[tactic(auto, using(crate::proofs::Runs::run_nonempty))]
+// How many bytes at the front are of the class.
+pub(crate) fn run(class: Class, bytes: &[u8], reads: &mut u64) -> usize
+    requires { IsClass class }
+    ensures value { result ≡ prefix_len (spec.is_in class) bytes.now }
+    ensures within { result ≤ length bytes.now }
+    ensures moves { 0 < length bytes.now → spec.is_in class (slice_index bytes.now 0) ≡ true → 0 < result }
+    ensures paid { reads.new ≤ reads.old + result + 1 }
+    ensures looked { Grows reads.old result reads.new }
+{
+    let end = match class {
+        Class::Word => word_len(bytes),
+        class => run_len(class, bytes),
+    };
     look(reads, if end < bytes.len() { end + 1 } else { end });
     end
 }
@@ -215,6 +230,7 @@ fn single(bytes: &[u8]) -> Option<Operator>
 /// The operator at the front, or the fault of a character that begins no lexeme.
 fn operator(bytes: &[u8], reads: &mut u64) -> (Found, usize)
     ensures value { result ≡ spec.operator (spec.first_row classes.operators bytes.now) }
+    ensures paid { reads.new ≤ reads.old + 3 }
     ensures looked { Grows reads.old result.1 reads.new }
 {
     look(reads, 3);
@@ -232,6 +248,7 @@ fn operator(bytes: &[u8], reads: &mut u64) -> (Found, usize)
 fn signed_len(bytes: &[u8], reads: &mut u64) -> usize
     ensures value { result ≡ spec.signed_len bytes.now }
     ensures within { result ≤ length bytes.now }
+    ensures paid { reads.new ≤ reads.old + result + 2 }
     ensures looked { Grows reads.old result reads.new }
 {
     if bytes.is_empty() {
@@ -250,6 +267,7 @@ fn signed_len(bytes: &[u8], reads: &mut u64) -> usize
 fn exponent_len(bytes: &[u8], reads: &mut u64) -> usize
     ensures value { result ≡ spec.exponent_len bytes.now }
     ensures within { result ≤ length bytes.now }
+    ensures paid { reads.new ≤ reads.old + result + 4 }
     ensures looked { Grows reads.old result reads.new }
 {
     if bytes.is_empty() {
@@ -272,6 +290,7 @@ fn exponent_len(bytes: &[u8], reads: &mut u64) -> usize
 fn fraction_len(bytes: &[u8], reads: &mut u64) -> usize
     ensures value { result ≡ spec.fraction_len bytes.now }
     ensures within { result ≤ length bytes.now }
+    ensures paid { reads.new ≤ reads.old + 5 * result + 1 }
     ensures looked { Grows reads.old result reads.new }
 {
     if bytes.is_empty() {
@@ -289,6 +308,7 @@ fn fraction_len(bytes: &[u8], reads: &mut u64) -> usize
 fn tail_len(bytes: &[u8], reads: &mut u64) -> usize
     ensures value { result ≡ spec.tail_len bytes.now }
     ensures within { result ≤ length bytes.now }
+    ensures paid { reads.new ≤ reads.old + 5 * result + (if result == 0 then 5 else 1) }
     ensures looked { Grows reads.old result reads.new }
 {
     let fraction = fraction_len(bytes, reads);
@@ -321,6 +341,7 @@ fn based(bytes: &[u8], reads: &mut u64) -> (u32, usize)
     ensures digits { result.1 ≡ spec.based_len bytes.now }
     ensures radix { 0 < result.1 → result.0 ≡ classes.base_of bytes.now }
     ensures within { 0 < result.1 → result.1 + 2 ≤ length bytes.now }
+    ensures paid { reads.new ≤ reads.old + result.1 + 3 }
     ensures looked { Grows reads.old result.1 reads.new }
     ensures letter { 0 < result.1 → Grows reads.old (result.1 + 2) reads.new }
 {
@@ -339,6 +360,7 @@ fn based(bytes: &[u8], reads: &mut u64) -> (u32, usize)
 fn is_pointed(bytes: &[u8], reads: &mut u64) -> bool
     requires { 0 < length bytes.now }
     ensures value { result ≡ spec.is_pointed bytes.now }
+    ensures paid { reads.new ≤ reads.old + 2 }
     ensures looked { Grows reads.old 0 reads.new }
 {
     look(reads, 2);
@@ -359,6 +381,7 @@ fn number(bytes: &[u8], reads: &mut u64) -> (Found, usize)
     ensures found { result.0 ≡ (spec.number_scan bytes.now).0 }
     ensures len { result.1 ≡ (spec.number_scan bytes.now).1 }
     ensures within { result.1 ≤ length bytes.now }
+    ensures paid { is_ascii_digit (slice_index bytes.now 0) ≡ true → reads.new ≤ reads.old + 5 * result.1 + 6 }
     ensures looked { Grows reads.old result.1 reads.new }
 {
     let (radix, digits) = based(bytes, reads);
@@ -384,6 +407,7 @@ fn scan_more(bytes: &[u8], reads: &mut u64) -> (Found, usize)
     requires { 0 < length bytes.now }
     ensures found { result.0 ≡ (spec.scan_more bytes.now).0 }
     ensures len { result.1 ≡ (spec.scan_more bytes.now).1 }
+    ensures paid { reads.new + fronts.aside bytes.now ≤ reads.old + 5 * result.1 + 7 }
     ensures looked { Grows reads.old result.1 reads.new }
 {
     look(reads, 1);
@@ -410,6 +434,7 @@ fn scan(bytes: &[u8], reads: &mut u64) -> (Found, usize)
     requires { 0 < length bytes.now }
     ensures found { result.0 ≡ (spec.scan bytes.now).0 }
     ensures len { result.1 ≡ (spec.scan bytes.now).1 }
+    ensures paid { reads.new + (if classes.begins 92 bytes.now then 2 else 0) ≤ reads.old + 5 * result.1 + 8 }
     ensures looked { Grows reads.old result.1 reads.new }
 {
     match opening(bytes, reads) {
@@ -420,10 +445,11 @@ fn scan(bytes: &[u8], reads: &mut u64) -> (Found, usize)
 
 #[tactic(auto, unfolding(crate::specs::Classes::line_end))]
 /// How long the line end at the front is: 0 where none stands there.
-fn line_end(bytes: &[u8], reads: &mut u64) -> usize
+pub(crate) fn line_end(bytes: &[u8], reads: &mut u64) -> usize
     ensures value { result ≡ classes.line_end bytes.now }
     ensures within { result ≤ length bytes.now }
     ensures short { result ≤ 2 }
+    ensures paid { reads.new ≤ reads.old + 2 }
     ensures looked { Grows reads.old 2 reads.new }
 {
     look(reads, 2);
@@ -440,16 +466,22 @@ fn line_end(bytes: &[u8], reads: &mut u64) -> usize
 
 #[tactic(auto, using(crate::proofs::Gaps::line_on, crate::proofs::Gaps::line_stop))]
 /// How many bytes stand before the line's end.
-fn line_len(bytes: &[u8], reads: &mut u64) -> usize
+pub(crate) fn line_len(bytes: &[u8], reads: &mut u64) -> usize
     ensures value { result ≡ classes.line_len bytes.now }
     ensures within { result ≤ length bytes.now }
+    ensures paid { reads.new ≤ reads.old + 2 * result + 2 }
     ensures looked { Grows reads.old result reads.new }
 {
     let mut end = 0;
-    while end < bytes.len() && line_end(&bytes[end..], reads) == 0 {
+    loop {
+        let len = plain_len(&bytes[end..]);
+        look(reads, len);
+        end += len;
+        if end == bytes.len() || line_end(&bytes[end..], reads) > 0 {
+            return end;
+        }
         end += 1;
     }
-    end
 }
 
 #[tactic(auto, unfolding(crate::specs::Scan::pass))]
@@ -457,6 +489,8 @@ fn line_len(bytes: &[u8], reads: &mut u64) -> usize
 fn pass(joined: bool, bytes: &[u8], reads: &mut u64) -> usize
     ensures value { result ≡ spec.pass joined bytes.now }
     ensures within { result ≤ length bytes.now }
+    ensures paid { reads.new ≤ reads.old + 1 + (if classes.begins 92 bytes.now then 2 else 0) }
+    ensures on { 0 < result → reads.new ≤ reads.old + 2 * result }
     ensures looked { Grows reads.old result reads.new }
 {
     if bytes.is_empty() {
@@ -481,6 +515,7 @@ fn pass(joined: bool, bytes: &[u8], reads: &mut u64) -> usize
 pub(crate) fn gap(joined: bool, bytes: &[u8], reads: &mut u64) -> usize
     ensures value { result ≡ spec.gap joined 0 bytes.now }
     ensures within { result ≤ length bytes.now }
+    ensures paid { reads.new ≤ reads.old + 2 * result + 1 + (if classes.begins 92 (drop result bytes.now) then 2 else 0) }
     ensures looked { Grows reads.old result reads.new }
 {
     let mut end = 0;
@@ -517,6 +552,7 @@ fn at_ground(mode: Mode) -> bool
 /// What comes in the text of an f-string whose run ends like that.
 fn text_turn(form: Form, ending: Ending) -> Turn
     ensures value { result ≡ spec.text_turn form ending }
+    ensures paid { fronts.owed ending + 2 ≤ room result }
     ensures passed { passed result ≤ fronts.reached form.quote ending }
 {
     match ending {
@@ -532,6 +568,7 @@ fn text_turn(form: Form, ending: Ending) -> Turn
 /// What comes at a place in the text of an f-string.
 pub(crate) fn text_here(form: Form, bytes: &[u8], reads: &mut u64) -> Turn
     ensures value { result ≡ spec.text_turn form (literals.body form 0 bytes.now) }
+    ensures paid { reads.new + 2 ≤ reads.old + room result }
     ensures looked { Grows reads.old (passed result) reads.new }
 {
     text_turn(form, body(form, bytes, reads))
@@ -541,6 +578,7 @@ pub(crate) fn text_here(form: Form, bytes: &[u8], reads: &mut u64) -> Turn
 fn literal_turn(form: Form, from: usize, ending: Ending) -> Turn
     requires { IsEnding from ending }
     ensures value { result ≡ spec.literal_turn form from ending }
+    ensures paid { 0 < from → 5 * from + 13 + fronts.owed ending ≤ room result }
     ensures passed { passed result ≤ from + fronts.reached form.quote ending }
 {
     match ending {
@@ -563,6 +601,7 @@ fn opens_turn(form: Form, from: usize, bytes: &[u8], reads: &mut u64) -> Turn
     requires within { from ≤ length bytes.now }
     requires short { length bytes.now < 2 ^ 63 }
     ensures value { result ≡ spec.opens_turn form from bytes.now }
+    ensures paid { 0 < from → reads.new + 5 * from + 13 ≤ reads.old + room result }
     ensures looked { Grows reads.old (passed result - from) reads.new }
 {
     if is_format(form.sort) {
@@ -576,6 +615,7 @@ fn opens_turn(form: Form, from: usize, bytes: &[u8], reads: &mut u64) -> Turn
 pub(crate) fn here(mode: Mode, bytes: &[u8], reads: &mut u64) -> Turn
     requires { length bytes.now < 2 ^ 63 }
     ensures value { result ≡ spec.here mode bytes.now }
+    ensures paid { reads.new + 3 + (if classes.begins 92 bytes.now then 2 else 0) ≤ reads.old + room result }
     ensures looked { Grows reads.old (passed result) reads.new }
 {
     if bytes.is_empty() {
@@ -602,89 +642,5 @@ pub(crate) fn here(mode: Mode, bytes: &[u8], reads: &mut u64) -> Turn
         Found::Kind(kind) => Turn::Gives(0, kind, len, len, false),
         Found::Fault(error) => Turn::Fault(0, error, len),
         Found::Opens(form) => opens_turn(form, len, bytes, reads),
-    }
-}
-
-fn is_open(widths: &[usize], width: usize) -> bool
-    ensures { result ≡ classes.is_open widths.now width }
-{
-    if width == 0 {
-        return true;
-    }
-    for x in widths {
-        if *x == width {
-            return true;
-        }
-    }
-    false
-}
-
-/// How many of the widths stay open at a line.
-fn kept(widths: &[usize], width: usize) -> usize
-    ensures value { result ≡ spec.kept widths.now width }
-    ensures within { result ≤ length widths.now }
-{
-    let mut end = 0;
-    while end < widths.len() && widths[end] <= width {
-        end += 1;
-    }
-    end
-}
-
-#[tactic(auto, unfolding(crate::specs::Scan::fits))]
-fn fits(widths: &[usize], width: usize, gap: usize) -> Turn
-    ensures value { result ≡ spec.fits widths.now width gap }
-    ensures passed { passed result ≤ gap }
-{
-    let kept = kept(widths, width);
-    if is_open(widths, width) {
-        Turn::Fits(kept, gap)
-    } else if kept == widths.len() {
-        Turn::Deeper(width, gap)
-    } else {
-        Turn::Fault(0, LexemeError::Indentation, gap)
-    }
-}
-
-fn has_tab(blanks: &[u8]) -> bool
-    ensures { result ≡ classes.has_tab blanks.now }
-{
-    blanks.iter().any(|b| *b == b'\t')
-}
-
-fn spaces(blanks: &[u8]) -> usize
-    ensures { result ≡ classes.spaces blanks.now }
-{
-    blanks.iter().filter(|b| **b == b' ').count()
-}
-
-/// What a line begins with.
-#[tactic(auto, unfolding(crate::specs::Scan::line_from))]
-pub(crate) fn line_turn(widths: &[usize], bytes: &[u8], reads: &mut u64) -> Turn
-    requires { length bytes.now < 2 ^ 63 }
-    ensures value { result ≡ spec.line_turn widths.now bytes.now }
-    ensures looked { Grows reads.old (passed result) reads.new }
-{
-    let gap = run(Class::Blank, bytes, reads);
-    let rest = &bytes[gap..];
-    if rest.is_empty() {
-        return Turn::End(gap);
-    }
-    look(reads, 1);
-    if rest[0] == b'\n' {
-        return Turn::Gives(gap, Kind::Newline, 1, gap + 1, true);
-    }
-    if rest[0] == b'#' {
-        let len = line_len(&rest[1..], reads);
-        let ends = line_end(&rest[1 + len..], reads);
-        return Turn::Gives(gap, Kind::Comment, 1 + len, gap + (1 + len) + ends, true);
-    }
-    let blanks = &bytes[..gap];
-    look(reads, gap);
-    if has_tab(blanks) {
-        Turn::Tab(gap)
-    } else {
-        look(reads, gap);
-        fits(widths, spaces(blanks), gap)
     }
 }

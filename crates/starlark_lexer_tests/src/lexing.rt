@@ -3,7 +3,7 @@
 use starlark_lexer::dialect::{Dialect, DialectTypes};
 use starlark_lexer::lexer::Lexer;
 use starlark_lexer::place::codemap::{CodeMap, CodeMapId};
-use std::alloc::{AllocError, Global};
+use std::alloc::AllocError;
 use std::test::Fail;
 
 #[test]
@@ -23,41 +23,6 @@ fn counts_reads_and_goes_through(rt: HostRuntime) -> Result<(), Fail> {
     }
     assert!(rt; lexer.reads() >= 5);
     assert!(rt; lexer.next().is_none());
-    Ok(())
-}
-
-/// What texts are made of that a scanner could look at again and again: runs of blanks and line ends, what opens and is
-/// never closed, and what looks like a longer lexeme to its last byte.
-static UNITS: [&str; 20] = [
-    " ", "\t\n", "\\\n", "#\n", "#", "x ", "x", "0", "1e", "0x", ".", "(", "\"", "'''", "r'\\",
-    "f\"{", "f'{{", "'\\x", "not ", "é",
-];
-
-/// How many looks a text takes, to its end or its fault.
-fn looks(alloc: Global, text: &str) -> Result<u64, Fail> {
-    let name = String::from_str(alloc, "t")?;
-    let source = String::from_str(alloc, text)?;
-    let Ok(codemap) = CodeMap::new(alloc, CodeMapId(1), name, source) else {
-        return Err(AllocError.into());
-    };
-    let mut lexer = Lexer::new(alloc, text, &Dialect::AllOptionsInternal, codemap);
-    for _ in &mut lexer {}
-    Ok(lexer.reads())
-}
-
-#[test]
-fn looks_stay_within_a_bound(rt: HostRuntime) -> Result<(), Fail> {
-    for unit in &UNITS {
-        let mut text = String::new(rt.alloc());
-        for _ in 0..1000 {
-            text.push_str(unit)?;
-        }
-        let looks = looks(rt.alloc(), &text)?;
-        assert!(&rt;
-            u128::from(looks) <= 16 * (text.len() as u128 + 1),
-            "{unit}"
-        );
-    }
     Ok(())
 }
 

@@ -1,4 +1,6 @@
 pub mod Characters
 pub mod Counts
+pub mod Blocks
+pub mod Feeds
 pub mod Lines
 pub mod Examples

@@ -10,7 +10,7 @@ ghost use Rattle.std.specs.Cmp.Rules.{comparing, hashing};
 ghost use Rattle.std.specs.Hash as fed;
 ghost use Rattle.std.specs.List.{suffix_len};
 
-use crate::count::char_count;
+use crate::count::{char_count, line_len};
 use crate::file_span::FileSpan;
 use crate::pos::{Pos, Span};
 use crate::resolved::{ResolvedPos, ResolvedSpan};
@@ -325,12 +325,15 @@ fn line_begins(alloc: Global, text: &[u8]) -> Result<Vec<u32>, AllocError>
 {
     let mut begins = Vec::new(alloc);
     begins.push(0)?;
-    for (i, b) in text.iter().enumerate() {
-        if *b == b'\n' {
-            begins.push(i as u32 + 1)?;
+    let mut at = 0;
+    loop {
+        at += line_len(&text[at..]);
+        if at == text.len() {
+            return Ok(begins);
         }
+        at += 1;
+        begins.push(at as u32)?;
     }
-    Ok(begins)
 }
 
 // where a line begins, and where it ends behind its line feed

@@ -3,7 +3,7 @@ use Rattle.std.proofs.lemmas.List.{length-drop, drop-drop, take_rest}
 use Rattle.std.specs.List.{prefix_len}
 use Rattle.starlark_lexer.specs.Fronts.{ending_at, is_plain, passed, width}
 use Rattle.starlark_lexer.specs.Literals.{body, later, piece}
-use Rattle.starlark_lexer.proofs.Looks.{on_passed}
+use Rattle.starlark_lexer.proofs.Looks.{on_passed, item_due, end_owed}
 use Rattle.starlark_lexer.proofs.Pieces.{IsCut}
 use Rattle.starlark_lexer.proofs.Bodies.{piece_is, at_end, past_piece, width_of, at_text_end}
 use Rattle.starlark_lexer.proofs.Values.{past_run}
@@ -50,6 +50,7 @@ loop-at-preserved c =
     record {
       rest = (λ j. later (i + n j) (body f 0 (drop (i + n j) bytes))) ∙ past_piece f i rest (drop (i + width p) bytes) p (body f 0 bytes) front is on (sym (drop-drop (width p) i bytes));
       within = omega (arith, cut.within, n, length-drop i bytes);
+      paid = omega (arith, n, cut.moves, c.plain_run-at.ensures.paid, c.next_piece-piece.ensures.paid, item_due i p on, c.loop-at.invariant.paid);
       looked = let past : passed f.quote p ≡ width p = on_passed f.quote i p on in record { up = omega arith; least = omega (arith, n) };
     }
 
@@ -59,3 +60,7 @@ returns-clause-value c =
     let i = c.loop-at.at in
     let bytes = c.args.bytes.now in
     at_text_end f i (drop i bytes) (body f 0 bytes) c.loop-at.invariant.rest (omega (arith, length-drop i bytes))
+
+pub returns-in-Some-clause-paid : goal.returns-in-Some-clause-paid
+returns-in-Some-clause-paid c =
+    omega (arith, c.plain_run-at.ensures.paid, c.next_piece-piece.ensures.paid, c.loop-at.invariant.paid, end_owed (c.loop-at.at + c.plain_run-at.result) c.next_piece-piece.result c.in-Some.ending (sym c.ending_at.ensures ∙ c.in-Some.is))

@@ -12,4 +12,4 @@ returns-then-len-eq0-clause-value c =
 pub loop-joined-preserved : goal.loop-joined-preserved
 loop-joined-preserved c =
     let is : c.pass-len.result ≡ pass c.args.joined (drop c.loop-joined.end c.args.bytes.now) = c.pass-len.ensures.value ∙ ap (pass c.args.joined) (take_rest c.args.bytes.now c.loop-joined.end) in
-    (gap_on c.args.joined c.args.bytes.now c.loop-joined.end c.pass-len.result is (omega arith) ∙ c.loop-joined.invariant.0, (omega arith, record { up = omega arith; least = omega arith }))
+    (gap_on c.args.joined c.args.bytes.now c.loop-joined.end c.pass-len.result is (omega arith) ∙ c.loop-joined.invariant.0, (omega arith, (omega (arith, c.pass-len.ensures.on (omega arith)), record { up = omega arith; least = omega arith })))

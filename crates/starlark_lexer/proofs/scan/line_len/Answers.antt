@@ -1,20 +1,28 @@
-use Rattle.std.proofs.Common.{◌≡◌, ◌≤◌, arith, sym, ◌∙◌, ap, drop, length, length-drop}
+use Rattle.std.proofs.Common.{◌≡◌, ◌+◌, arith, ◌∙◌, ap, drop, length-drop}
+use Rattle.std.specs.List.{prefix_len}
 use Rattle.std.proofs.lemmas.List.{take_rest}
 use Rattle.starlark_lexer.specs.Classes.{line_end, line_len}
-use Rattle.starlark_lexer.proofs.Gaps.{line_on, line_stop, line_len_within}
+use Rattle.starlark_lexer.specs.Fronts.{is_plain}
+use Rattle.starlark_lexer.proofs.Gaps.{line_past_plain, line_on, line_stop, line_len_within}
 use Rattle.starlark_lexer.proofs.scan.line_len.Goals as goal
+use Rattle.starlark_lexer.proofs.scan.line_len.Goals.{then-end-bytes-via-then-end-bytes, then-end-bytes-via-else-end-bytes+then-line_end-gt0}
+
+pub returns-then-end-bytes-clause-value : goal.returns-then-end-bytes-clause-value
+returns-then-end-bytes-clause-value c =
+    let xs = c.args.bytes.now in
+    let at = c.loop-end.end + c.plain_len-len.result in
+    let past = line_past_plain xs c.loop-end.end c.plain_len-len.result (c.plain_len-len.ensures.value ∙ ap (prefix_len is_plain) (take_rest xs c.loop-end.end)) in
+    let stop : line_len (drop at xs) ≡ 0 =
+    elim c.then-end-bytes.branch [
+      | then-end-bytes-via-then-end-bytes w ↦ omega (arith, line_len_within (drop at xs), length-drop at xs, w.if-end-bytes.true)
+      | then-end-bytes-via-else-end-bytes+then-line_end-gt0 w ↦ line_stop (drop at xs) (omega (arith, w.line_end.ensures.value ∙ ap line_end (take_rest xs at), w.if-line_end-gt0.true))
+    ] in
+    omega (arith, past, stop, c.loop-end.invariant.0)
 
 pub loop-end-preserved : goal.loop-end-preserved
 loop-end-preserved c =
-    let is : c.line_end.result ≡ line_end (drop c.loop-end.end c.args.bytes.now) = c.line_end.ensures.value ∙ ap line_end (take_rest c.args.bytes.now c.loop-end.end) in
-    (line_on c.args.bytes.now c.loop-end.end c.loop-end-test.true (sym is ∙ c.if-line_end-eq0.true) ∙ c.loop-end.invariant.0, (omega arith, record { up = omega arith; least = omega arith }))
-
-pub returns-else-line_end-eq0-clause-value : goal.returns-else-line_end-eq0-clause-value
-returns-else-line_end-eq0-clause-value c =
-    let is : c.line_end.result ≡ line_end (drop c.loop-end.end c.args.bytes.now) = c.line_end.ensures.value ∙ ap line_end (take_rest c.args.bytes.now c.loop-end.end) in
-    omega (arith, line_stop (drop c.loop-end.end c.args.bytes.now) (omega arith))
-
-pub returns-after-loop-end-clause-value : goal.returns-after-loop-end-clause-value
-returns-after-loop-end-clause-value c =
-    let zero : line_len (drop c.loop-end.end c.args.bytes.now) ≤ length (drop c.loop-end.end c.args.bytes.now) = line_len_within (drop c.loop-end.end c.args.bytes.now) in
-    omega (arith, length-drop c.loop-end.end c.args.bytes.now)
+    let xs = c.args.bytes.now in
+    let at = c.loop-end.end + c.plain_len-len.result in
+    let past = line_past_plain xs c.loop-end.end c.plain_len-len.result (c.plain_len-len.ensures.value ∙ ap (prefix_len is_plain) (take_rest xs c.loop-end.end)) in
+    let is : c.line_end.result ≡ line_end (drop at xs) = c.line_end.ensures.value ∙ ap line_end (take_rest xs at) in
+    (line_on xs at (omega arith) (omega (arith, is)) ∙ past ∙ c.loop-end.invariant.0, (omega arith, (omega arith, record { up = omega arith; least = omega arith })))

@@ -25,6 +25,7 @@ invariant_of-result c =
       source = sym c.requires;
       fits = rw (sym c.requires) c.source.ensures.fits;
       counted = omega arith;
+      paid = record { most = λ h. omega arith; all = omega arith };
     }
 
 pub returns-clause-left : goal.returns-clause-left

@@ -1,7 +1,7 @@
 use Rattle.std.proofs.Common.{◌≡◌, ◌+◌, ◌-◌, ◌≤◌, length, drop}
 use Rattle.std.specs.List.{prefix_len}
 use Rattle.starlark_lexer.specs.Scan.{is_in}
-use Rattle.starlark_lexer.proofs.scan.run.Given as goal
+use Rattle.starlark_lexer.proofs.scan.run_len.Given as goal
 
 abbrev pub invariant-loop-end : goal.invariant-loop-end
 invariant-loop-end l =

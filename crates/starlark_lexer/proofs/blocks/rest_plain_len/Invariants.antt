@@ -1,10 +1,10 @@
 use Rattle.std.proofs.Common.{◌≡◌, ◌+◌, ◌-◌, ◌≤◌, length, drop}
 use Rattle.std.specs.List.{prefix_len}
 use Rattle.starlark_lexer.specs.Fronts.{is_plain}
-use Rattle.starlark_lexer.proofs.literal.plain_len.Given as goal
+use Rattle.starlark_lexer.proofs.blocks.rest_plain_len.Given as goal
 
 abbrev pub invariant-loop-end : goal.invariant-loop-end
-invariant-loop-end l = (l.end + prefix_len is_plain (drop l.end l.bytes) ≡ prefix_len is_plain l.bytes) × (l.end ≤ length l.bytes)
+invariant-loop-end l = (l.end + prefix_len is_plain (drop l.end l.rest) ≡ prefix_len is_plain l.rest) × (l.end ≤ length l.rest)
 
 abbrev pub decreases-loop-end : goal.decreases-loop-end
-decreases-loop-end l = length l.bytes - l.end
+decreases-loop-end l = length l.rest - l.end
