@@ -1,6 +1,6 @@
 //! What is asked of the lexer.
 
-ghost use Rattle.std.specs.Prelude.{◌≡◌, ◌≤◌, ◌∷◌, ◌++◌, IfOk, [], true};
+ghost use Rattle.std.specs.Prelude.{◌≡◌, ◌≤◌, ◌+◌, ◌*◌, ◌∷◌, ◌++◌, IfOk, IfErr, [], true};
 ghost use Rattle.starlark_lexer.specs.Items.{lexeme_of};
 ghost use Rattle.starlark_read.specs.Asides.{ahead_end, aside_in, aside_of, in_all};
 ghost use Rattle.starlark_grammar.specs.Language.{is_comment, uncommented};
@@ -50,7 +50,7 @@ impl<'a> Feed<'a> {
     /// A lexer that was not asked yet.
     pub(crate) fn new(alloc: Global, lexer: Lexer<'a>) -> Feed<'a>
         ensures lexer { result.lexer ≡ lexer.entry }
-        ensures aside { in_all result ≡ aside_in lexer.entry.left.items }
+        ensures aside { in_all result ≡ aside_in lexer.entry.size lexer.entry.left.items }
     {
         Feed {
             lexer,
@@ -69,6 +69,20 @@ impl<'a> Feed<'a> {
         ensures on { self.old.lexer.place ≤ self.new.lexer.place }
         ensures asked { 1 ≤ self.new.asks }
     {
+        let mut ahead = Lookahead::End;
+        self.advance(&mut ahead)?;
+        Ok(ahead)
+    }
+
+    /// Puts what the lexer gives next that is no comment in the place of what it gave last.
+    pub(crate) fn advance(&mut self, ahead: &mut Lookahead) -> Result<(), AllocError>
+        ensures tokens { IfOk result (λ u. uncommented self.old.lexer.left ≡ with_ahead ahead.new (uncommented self.new.lexer.left)) }
+        ensures aside { IfOk result (λ u. aside_of ahead.new self.new ≡ in_all self.old) }
+        ensures reaches { IfOk result (λ u. ahead_end ahead.new ≤ self.new.lexer.place) }
+        ensures kept { IfErr result (λ e. ahead.new ≡ ahead.old) }
+        ensures on { self.old.lexer.place ≤ self.new.lexer.place }
+        ensures asked { 1 ≤ self.new.asks }
+    {
         while let Some(answer) = self.lexer.next() {
             self.asks = self.asks.saturating_add(1);
             match answer {
@@ -76,7 +90,8 @@ impl<'a> Feed<'a> {
                     let span = Span::new(Pos::new(begin as u32), Pos::new(end as u32));
                     if !is_comment(&token) {
                         self.behind_comment = false;
-                        return Ok(Lookahead::Token(span, token));
+                        *ahead = Lookahead::Token(span, token);
+                        return Ok(());
                     }
                     self.put_aside(span)?;
                 }
@@ -85,12 +100,14 @@ impl<'a> Feed<'a> {
                     let Some(place) = fault.span() else {
                         unreachable!();
                     };
-                    return Ok(Lookahead::Fault(*fault.inner(), place.span));
+                    *ahead = Lookahead::Fault(*fault.inner(), place.span);
+                    return Ok(());
                 }
             }
         }
         self.asks = self.asks.saturating_add(1);
-        Ok(Lookahead::End)
+        *ahead = Lookahead::End;
+        Ok(())
     }
 
     /// One more comment.
@@ -111,6 +128,7 @@ impl<'a> Feed<'a> {
     pub(crate) fn cost(&self) -> Cost
         ensures asks { result.asks ≡ self.now.asks }
         ensures reads { self.now.lexer.place ≤ result.reads }
+        ensures bounded { result.reads ≤ 16 * self.now.lexer.size + 16 }
     {
         Cost {
             reads: self.lexer.reads(),

@@ -1,6 +1,6 @@
 //! A whole text.
 
-ghost use Rattle.std.specs.Prelude.{◌≡◌, ◌≢◌, ◌≤◌, ℕ, IfErr, IfOk, List, false, None, Some, Err, [], suc, length};
+ghost use Rattle.std.specs.Prelude.{◌≡◌, ◌≢◌, ◌≤◌, ◌+◌, ◌*◌, ℕ, IfErr, IfOk, List, false, None, Some, Err, [], suc, length};
 ghost use Rattle.starlark_lexer.specs.Items.{Lexed};
 ghost use Rattle.starlark_lexer.specs.Lex.{Lex, start};
 ghost use Rattle.starlark_read.specs.declared.refused.Refused.{Refused};
@@ -38,8 +38,10 @@ pub fn read<B: Build>(
     ensures joined { IfOk result (λ x. told.new.comments.joined.items ≡ joined_in false lexer.entry.left.items) }
     ensures asks { IfOk result (λ x. told.new.cost.asks ≡ counted (suc (length lexer.entry.left.items))) }
     ensures reads { IfOk result (λ x. last_end 0 (uncommented lexer.entry.left).items ≤ told.new.cost.reads) }
+    ensures bounded { IfOk result (λ x. told.new.cost.reads ≤ 16 * lexer.entry.size + 16) }
     ensures some { IfErr result (λ e. fault_of e ≢ None → 1 ≤ told.new.cost.asks) }
     ensures most { IfErr result (λ e. fault_of e ≢ None → told.new.cost.asks ≤ counted (suc (length lexer.entry.left.items))) }
+    ensures spent { IfErr result (λ e. fault_of e ≢ None → told.new.cost.reads ≤ 16 * lexer.entry.size + 16) }
 {
     let mut feed = Feed::new(alloc, lexer);
     let Ok(ahead) = feed.fetch() else {

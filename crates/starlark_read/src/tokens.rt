@@ -1,12 +1,13 @@
 //! The tokens of a text, with one token of look-ahead.
 
-ghost use Rattle.std.specs.Prelude.{◌≡◌, ◌≢◌, ◌≤◌, [], IfOk, MatchOption, Some, None, true, string_bytes, Err, max};
+ghost use Rattle.std.specs.Prelude.{◌≡◌, ◌≢◌, ◌≤◌, ◌+◌, ◌*◌, [], IfOk, MatchOption, Some, None, true, string_bytes, Err, max};
 ghost use Rattle.std.specs.Bool.{MatchBool};
 ghost use Rattle.starlark_place.specs.declared.pos.Spanned.{Spanned};
 ghost use Rattle.starlark_lexer.specs.Items.{item, lexeme_of, identifier, string};
 ghost use Rattle.starlark_rulebook.specs.declared.rule.Rule.{Rule};
 ghost use Rattle.starlark_read.specs.Asides.{ahead_end, aside_of};
 ghost use Rattle.starlark_grammar.specs.Events.{conversion_end};
+ghost use Rattle.starlark_read.specs.Counted.{kind_given};
 ghost use Rattle.starlark_read.specs.Gathered.{conversion_ahead};
 ghost use Rattle.starlark_read.specs.Kinds.{kind_ahead, is_plain, token_of};
 ghost use Rattle.starlark_grammar.specs.Language.{uncommented};
@@ -35,6 +36,8 @@ pub(crate) struct Tokens<'a> {
     alloc: Global,
     feed: Feed<'a>,
     ahead: Lookahead,
+    // of what stands ahead
+    kind: Kind,
     last: Pos,
 }
 
@@ -56,6 +59,16 @@ fn place(span: &Span) -> Span
     Span::new(span.begin(), span.end())
 }
 
+/// The kind of what the lexer gave.
+fn kind_given(ahead: &Lookahead) -> Kind
+    ensures { result ≡ kind_given ahead.now }
+{
+    match ahead {
+        Lookahead::Token(_, token) => kind_of(token),
+        _ => Kind::End,
+    }
+}
+
 impl<'a> Tokens<'a> {
     /// What the lexer gave first, and all that it has left.
     pub(crate) fn new(alloc: Global, feed: Feed<'a>, ahead: Lookahead) -> Tokens<'a>
@@ -63,10 +76,12 @@ impl<'a> Tokens<'a> {
         requires reached { ahead_end ahead ≤ feed.lexer.place }
         ensures { result ≡ left_of 0 (with_ahead ahead (uncommented feed.entry.lexer.left)) (aside_of ahead feed.entry) }
     {
+        let kind = kind_given(&ahead);
         Tokens {
             alloc,
             feed,
             ahead,
+            kind,
             last: Pos::new(0),
         }
     }
@@ -77,6 +92,7 @@ impl<'a> Tokens<'a> {
         ensures most { result.asks ≤ self.now.aside.asks }
         ensures whole { self.now.items ≡ [] → result.asks ≡ self.now.aside.asks }
         ensures reads { self.now.last ≤ result.reads }
+        ensures bounded { result.reads ≤ 16 * self.now.aside.size + 16 }
     {
         self.feed.cost()
     }
@@ -119,10 +135,7 @@ impl<'a> Tokens<'a> {
     pub(crate) fn kind(&self) -> Kind
         ensures { result ≡ kind_ahead self.now.items }
     {
-        match &self.ahead {
-            Lookahead::Token(_, token) => kind_of(token),
-            _ => Kind::End,
-        }
+        self.kind
     }
 
     /// Where the next token begins, or 0 where none is left.
@@ -210,12 +223,15 @@ impl<'a> Tokens<'a> {
     }
 
     /// Reads the next token.
+    #[inline(always)]
     pub(crate) fn next(&mut self) -> Result<Option<(Token, Span)>, AllocError>
         ensures { IfOk result (λ o. MatchOption o ((self.old.items ≡ []) × (self.new ≡ self.old)) (λ x. Passes self.old (item x.1.begin (lexeme_of x.0) x.1.end) self.new)) }
     {
         match mem::replace(&mut self.ahead, Lookahead::End) {
             Lookahead::Token(span, token) => {
-                self.ahead = self.feed.fetch()?;
+                self.kind = Kind::End;
+                self.feed.advance(&mut self.ahead)?;
+                self.kind = kind_given(&self.ahead);
                 self.last = span.end();
                 Ok(Some((token, span)))
             }
@@ -224,6 +240,20 @@ impl<'a> Tokens<'a> {
                 Ok(None)
             }
         }
+    }
+
+    /// Lets the next token go, if one is left.
+    fn skip(&mut self) -> Result<(), AllocError>
+        ensures { IfOk result (λ u. MatchOption (first_lexeme self.old.items) (self.new ≡ self.old) (λ w. Passes self.old (item (start self.old.items) w self.new.last) self.new)) }
+    {
+        let Lookahead::Token(span, _) = &self.ahead else {
+            return Ok(());
+        };
+        let end = span.end();
+        self.feed.advance(&mut self.ahead)?;
+        self.kind = kind_given(&self.ahead);
+        self.last = end;
+        Ok(())
     }
 
     /// Whether the next token is of that kind, which has no payload.
@@ -242,7 +272,7 @@ impl<'a> Tokens<'a> {
         if !self.stands(want) {
             return Ok(false);
         }
-        let _read = self.next()?;
+        self.skip()?;
         Ok(true)
     }
 
