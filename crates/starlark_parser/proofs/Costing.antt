@@ -16,21 +16,28 @@ use Rattle.starlark_grammar.proofs.Ended.{ended}
 fits : (n m : ℕ) → n ≤ 4294967295 → m ≤ 2 * n + 1 → counted (suc m) ≡ suc m
 fits n m h k = omega (arith, h, k)
 
-pub whole_cost : {text source : List ℕ} {l : Lexed} {c : Cost} → source ≡ text → Lex start source l → l.fault ≡ None → length text ≤ 4294967295 → ((t : List ℕ) (m : Lexed) → Lex start t m → length m.items ≤ 2 * length t + 1) → c.asks ≡ counted (suc (length l.items)) → last_end 0 (uncommented l).items ≤ c.reads → IsWhole text c
-whole_cost {text} {source} {l} {c} q x f h few a r =
+-- the looks, by the length that the lexer knows
+within : {text source : List ℕ} {n r : ℕ} → source ≡ text → n ≡ length source → r ≤ 16 * n + 16 → r ≤ 16 * length text + 16
+within {text} {source} {n} {r} q z b = subst (λ t. r ≤ 16 * length t + 16) q (subst (λ k. r ≤ 16 * k + 16) z b)
+
+pub whole_cost : {text source : List ℕ} {l : Lexed} {c : Cost} {n : ℕ} → source ≡ text → Lex start source l → l.fault ≡ None → length text ≤ 4294967295 → ((t : List ℕ) (m : Lexed) → Lex start t m → length m.items ≤ 2 * length t + 1) → c.asks ≡ counted (suc (length l.items)) → last_end 0 (uncommented l).items ≤ c.reads → n ≡ length source → c.reads ≤ 16 * n + 16 → IsWhole text c
+whole_cost {text} {source} {l} {c} q x f h few a r z b =
     let w : Lex start text l = subst (λ t. Lex start t l) q x in
-    record { lexed = l; lexes = w; asks = a ∙ fits (length text) (length l.items) h (few text l w); reads = let e = ended w f in omega (arith, e, r) }
+    let k = fits (length text) (length l.items) h (few text l w) in
+    record { lexed = l; lexes = w; asks = a ∙ k; few = omega (arith, a, k, few text l w); reads = let e = ended w f in omega (arith, e, r); bounded = within q z b }
 
-part_cost : {text : List ℕ} {l : Lexed} {c : Cost} → Lex start text l → length text ≤ 4294967295 → length l.items ≤ 2 * length text + 1 → 1 ≤ c.asks → c.asks ≤ counted (suc (length l.items)) → IsPartly text c
-part_cost {text} {l} {c} w h few s m = record { lexed = l; lexes = w; some = s; most = let k = fits (length text) (length l.items) h few in omega (arith, k, m) }
+part_cost : {text : List ℕ} {l : Lexed} {c : Cost} → c.reads ≤ 16 * length text + 16 → Lex start text l → length text ≤ 4294967295 → length l.items ≤ 2 * length text + 1 → 1 ≤ c.asks → c.asks ≤ counted (suc (length l.items)) → IsPartly text c
+part_cost {text} {l} {c} b w h few s m =
+    let k = fits (length text) (length l.items) h few in
+    record { lexed = l; lexes = w; some = s; most = omega (arith, k, m); few = omega (arith, k, m, few); bounded = b }
 
-pub refused_cost : {text source : List ℕ} {l : Lexed} (c : Cost) (o : Option Fault) (file : File) (e : EvalException) → Tells o file e → source ≡ text → Lex start source l → length text ≤ 4294967295 → ((t : List ℕ) (m : Lexed) → Lex start t m → length m.items ≤ 2 * length t + 1) → (o ≢ None → 1 ≤ c.asks) → (o ≢ None → c.asks ≤ counted (suc (length l.items))) → Costs text (Err e) c
-refused_cost {text} {source} {l} c (Some f) file (exception.Fault w) t q x h few s m =
+pub refused_cost : {text source : List ℕ} {l : Lexed} {n : ℕ} (c : Cost) (o : Option Fault) (file : File) (e : EvalException) → Tells o file e → source ≡ text → Lex start source l → length text ≤ 4294967295 → ((t : List ℕ) (m : Lexed) → Lex start t m → length m.items ≤ 2 * length t + 1) → (o ≢ None → 1 ≤ c.asks) → (o ≢ None → c.asks ≤ counted (suc (length l.items))) → n ≡ length source → (o ≢ None → c.reads ≤ 16 * n + 16) → Costs text (Err e) c
+refused_cost {text} {source} {l} c (Some f) file (exception.Fault w) t q x h few s m z b =
     let y : Lex start text l = subst (λ t. Lex start t l) q x in
     let n : Some f ≢ None = λ v. absurd (cc) in
-    part_cost y h (few text l y) (s n) (m n)
-refused_cost c None file (exception.Fault w) t q x h few s m = absurd t
-refused_cost c (Some f) file exception.TooLong t q x h few s m = absurd t
-refused_cost c None file exception.TooLong t q x h few s m = absurd t
-refused_cost c (Some f) file exception.Memory t q x h few s m = tt
-refused_cost c None file exception.Memory t q x h few s m = tt
+    part_cost (within q z (b n)) y h (few text l y) (s n) (m n)
+refused_cost c None file (exception.Fault w) t q x h few s m z b = absurd t
+refused_cost c (Some f) file exception.TooLong t q x h few s m z b = absurd t
+refused_cost c None file exception.TooLong t q x h few s m z b = absurd t
+refused_cost c (Some f) file exception.Memory t q x h few s m z b = tt
+refused_cost c None file exception.Memory t q x h few s m z b = tt

@@ -1,5 +1,5 @@
 -- What the reading of a text costs.
-use Rattle.std.specs.Prelude.{◌≡◌, ◌≤◌, ℕ, suc, List, length, Result, Ok, Err}
+use Rattle.std.specs.Prelude.{◌≡◌, ◌≤◌, ◌+◌, ◌*◌, ℕ, suc, List, length, Result, Ok, Err}
 use Rattle.starlark_lexer.specs.Items.{Lexed}
 use Rattle.starlark_lexer.specs.Lex.{Lex, start}
 use Rattle.starlark_read.specs.declared.cost.Cost.{Cost}
@@ -7,12 +7,14 @@ use Rattle.starlark_parser.specs.declared.fault.EvalException.{EvalException}
 use Rattle.starlark_parser.specs.declared.fault.EvalException.TheVariants as exception
 use Rattle.starlark_parser.specs.declared.module.AstModule.{AstModule}
 
--- The text was read to its end: one ask for each lexeme and one for the end, and each byte was looked at.
+-- The text was read to its end: one ask for each lexeme and one for the end, and each byte was looked at, 16 times at most and 16 times more.
 pub record IsWhole (text : List ℕ) (c : Cost) : Type 0 where
   pub lexed : Lexed
   pub lexes : Lex start text lexed
   pub asks : c.asks ≡ suc (length lexed.items)
+  pub few : c.asks ≤ 2 * length text + 2
   pub reads : length text ≤ c.reads
+  pub bounded : c.reads ≤ 16 * length text + 16
 
 -- It was read until it was refused: nothing is asked for behind the fault or the end.
 pub record IsPartly (text : List ℕ) (c : Cost) : Type 0 where
@@ -20,6 +22,8 @@ pub record IsPartly (text : List ℕ) (c : Cost) : Type 0 where
   pub lexes : Lex start text lexed
   pub some : 1 ≤ c.asks
   pub most : c.asks ≤ suc (length lexed.items)
+  pub few : c.asks ≤ 2 * length text + 2
+  pub bounded : c.reads ≤ 16 * length text + 16
 
 -- the cost of a reading with that answer
 abbrev pub Costs : List ℕ → Result AstModule EvalException → Cost → Type 0
