@@ -1,4 +1,5 @@
 pub mod Idents
 pub mod Listed
 pub mod Steps
+pub mod Takes
 pub mod Visited

@@ -4,7 +4,7 @@ ghost use Rattle.std.specs.Prelude.{◌≡◌, Ok, List, [], ◌∷◌, ◌++◌
 ghost use Rattle.starlark_ast.specs.Calls.{lent, CallsEach};
 ghost use Rattle.starlark_visit.specs.Idents.{N as Read, argument_reads, clause_reads, expr_reads, for_clause_reads, lambda_reads, maybe_reads, maybe_type_reads, parameter_reads, stmt_reads, target_reads};
 
-use crate::walk::outer;
+use crate::visit::VisitExpr;
 use starlark_ast::ast::{
     ArgumentP, AssignTargetP, AstArgumentP, AstAssignTargetP, AstExprP, AstIdentP, AstParameterP,
     AstPayload, AstTypeExprP, ClauseP, ExprP, ForClauseP, LambdaP, ParameterP, StmtP,
@@ -345,6 +345,6 @@ impl<P: AstPayload> VisitIdent<P> for StmtP<P> {
             names(x, f);
             Ok(())
         };
-        let _ = outer(self, &mut go);
+        let _ = self.visit_expr_err(&mut go);
     }
 }

@@ -4,6 +4,7 @@ ghost use Rattle.std.specs.Prelude.{List, [], ◌∷◌, map, flat_map};
 ghost use Rattle.starlark_ast.specs.Calls.{lent, CallsEach, StopsAtErr};
 ghost use Rattle.starlark_ast.specs.Places.{argument_place, assigned_places, children, clause_places, E as Place, for_clause_places, maybe_place, maybe_type_place, pair_places, parameter_places, target_places};
 ghost use Rattle.starlark_visit.specs.Idents.{Assigned};
+ghost use Rattle.starlark_visit.specs.Takes.{Takes};
 
 use starlark_ast::ast::{
     AssignTargetP, AstArgumentP, AstAssignIdentP, AstExprP, AstParameterP, AstPayload,
@@ -14,11 +15,24 @@ use starlark_ast::ast::{
 pub trait VisitExpr<P: AstPayload> {
     ghost parts: { Self → List (Place P P.LoadPayload P.IdentPayload P.IdentAssignPayload P.DefPayload P.TypeExprPayload) };
 
-    /// Lends each of them for the time of a call, up to the first `Err`, which is the answer. It takes no memory.
-    fn visit_expr_err<E, F: FnMut(&AstExprP<P>) -> Result<(), E>>(&self, f: &mut F) -> Result<(), E>
+    /// Lends each of them for the time of a call, up to the first `Err`, which is the answer. It takes no memory. The
+    /// closure has to be callable at these places alone, in turn: so it may ask that what it is lent is smaller than what
+    /// stands around it, and a function that goes down a tree may stand in it.
+    fn lend_exprs<E, F: FnMut(&AstExprP<P>) -> Result<(), E>>(&self, f: &mut F) -> Result<(), E>
+        requires { Takes lent F.FnMut f.old (parts self.now) }
+        ensures { StopsAtErr lent F.FnMut f.old (parts self.now) result f.new };
+
+    /// The same with a closure that may always be called.
+    final fn visit_expr_err<E, F: FnMut(&AstExprP<P>) -> Result<(), E>>(
+        &self,
+        f: &mut F,
+    ) -> Result<(), E>
         requires { F.IsAlwaysCallable f.old }
         ensures calls { StopsAtErr lent F.FnMut f.old (parts self.now) result f.new }
-        ensures callable { F.IsAlwaysCallable f.new };
+        ensures callable { F.IsAlwaysCallable f.new }
+    {
+        lend_always(self, f)
+    }
 
     /// The same, by the name that it has for statements.
     final fn visit_expr_result<E, F: FnMut(&AstExprP<P>) -> Result<(), E>>(
@@ -53,6 +67,18 @@ pub trait VisitLvalue<P: AstPayload> {
         ensures callable { F.IsAlwaysCallable f.new };
 }
 
+/// Each expression that it lends, up to the first `Err`, to a closure that may always be called.
+fn lend_always<P: AstPayload, L: VisitExpr<P>, E, F: FnMut(&AstExprP<P>) -> Result<(), E>>(
+    parts: &L,
+    f: &mut F,
+) -> Result<(), E>
+    requires { F.IsAlwaysCallable f.old }
+    ensures calls { StopsAtErr lent F.FnMut f.old (L.parts parts.now) result f.new }
+    ensures callable { F.IsAlwaysCallable f.new }
+{
+    parts.lend_exprs(f)
+}
+
 /// Each expression that it lends.
 fn lend_each<P: AstPayload, L: VisitExpr<P>, F: FnMut(&AstExprP<P>)>(parts: &L, f: &mut F)
     requires { F.IsAlwaysCallable f.old }
@@ -67,33 +93,29 @@ fn lend_each<P: AstPayload, L: VisitExpr<P>, F: FnMut(&AstExprP<P>)>(parts: &L, 
 }
 
 pub(crate) fn one<T, E, F: FnMut(&T) -> Result<(), E>>(x: &T, f: &mut F) -> Result<(), E>
-    requires { F.IsAlwaysCallable f.old }
-    ensures calls { StopsAtErr lent F.FnMut f.old (x.now ∷ []) result f.new }
-    ensures callable { F.IsAlwaysCallable f.new }
+    requires { Takes lent F.FnMut f.old (x.now ∷ []) }
+    ensures { StopsAtErr lent F.FnMut f.old (x.now ∷ []) result f.new }
 {
     f(x)
 }
 
 pub(crate) fn boxed<T, E, F: FnMut(&T) -> Result<(), E>>(x: &Box<T>, f: &mut F) -> Result<(), E>
-    requires { F.IsAlwaysCallable f.old }
-    ensures calls { StopsAtErr lent F.FnMut f.old (x.now.value ∷ []) result f.new }
-    ensures callable { F.IsAlwaysCallable f.new }
+    requires { Takes lent F.FnMut f.old (x.now.value ∷ []) }
+    ensures { StopsAtErr lent F.FnMut f.old (x.now.value ∷ []) result f.new }
 {
     one(&**x, f)
 }
 
 fn operands<T, E, F: FnMut(&T) -> Result<(), E>>(x: &Box<T>, y: &Box<T>, f: &mut F) -> Result<(), E>
-    requires { F.IsAlwaysCallable f.old }
-    ensures calls { StopsAtErr lent F.FnMut f.old (x.now.value ∷ y.now.value ∷ []) result f.new }
-    ensures callable { F.IsAlwaysCallable f.new }
+    requires { Takes lent F.FnMut f.old (x.now.value ∷ y.now.value ∷ []) }
+    ensures { StopsAtErr lent F.FnMut f.old (x.now.value ∷ y.now.value ∷ []) result f.new }
 {
     two(&**x, &**y, f)
 }
 
 pub(crate) fn two<T, E, F: FnMut(&T) -> Result<(), E>>(x: &T, y: &T, f: &mut F) -> Result<(), E>
-    requires { F.IsAlwaysCallable f.old }
-    ensures calls { StopsAtErr lent F.FnMut f.old (x.now ∷ y.now ∷ []) result f.new }
-    ensures callable { F.IsAlwaysCallable f.new }
+    requires { Takes lent F.FnMut f.old (x.now ∷ y.now ∷ []) }
+    ensures { StopsAtErr lent F.FnMut f.old (x.now ∷ y.now ∷ []) result f.new }
 {
     if let Err(e) = f(x) {
         return Err(e);
@@ -102,9 +124,8 @@ pub(crate) fn two<T, E, F: FnMut(&T) -> Result<(), E>>(x: &T, y: &T, f: &mut F) 
 }
 
 fn three<T, E, F: FnMut(&T) -> Result<(), E>>(x: &T, y: &T, z: &T, f: &mut F) -> Result<(), E>
-    requires { F.IsAlwaysCallable f.old }
-    ensures calls { StopsAtErr lent F.FnMut f.old (x.now ∷ y.now ∷ z.now ∷ []) result f.new }
-    ensures callable { F.IsAlwaysCallable f.new }
+    requires { Takes lent F.FnMut f.old (x.now ∷ y.now ∷ z.now ∷ []) }
+    ensures { StopsAtErr lent F.FnMut f.old (x.now ∷ y.now ∷ z.now ∷ []) result f.new }
 {
     if let Err(e) = f(x) {
         return Err(e);
@@ -113,9 +134,8 @@ fn three<T, E, F: FnMut(&T) -> Result<(), E>>(x: &T, y: &T, z: &T, f: &mut F) ->
 }
 
 fn maybe<T, E, F: FnMut(&T) -> Result<(), E>>(x: &Option<Box<T>>, f: &mut F) -> Result<(), E>
-    requires { F.IsAlwaysCallable f.old }
-    ensures calls { StopsAtErr lent F.FnMut f.old (maybe_place x.now) result f.new }
-    ensures callable { F.IsAlwaysCallable f.new }
+    requires { Takes lent F.FnMut f.old (maybe_place x.now) }
+    ensures { StopsAtErr lent F.FnMut f.old (maybe_place x.now) result f.new }
 {
     match x {
         None => Ok(()),
@@ -127,9 +147,8 @@ pub(crate) fn maybe_type<P: AstPayload, E, F: FnMut(&AstExprP<P>) -> Result<(), 
     x: &Option<Box<AstTypeExprP<P>>>,
     f: &mut F,
 ) -> Result<(), E>
-    requires { F.IsAlwaysCallable f.old }
-    ensures calls { StopsAtErr lent F.FnMut f.old (maybe_type_place x.now) result f.new }
-    ensures callable { F.IsAlwaysCallable f.new }
+    requires { Takes lent F.FnMut f.old (maybe_type_place x.now) }
+    ensures { StopsAtErr lent F.FnMut f.old (maybe_type_place x.now) result f.new }
 {
     match x {
         None => Ok(()),
@@ -138,9 +157,8 @@ pub(crate) fn maybe_type<P: AstPayload, E, F: FnMut(&AstExprP<P>) -> Result<(), 
 }
 
 pub(crate) fn each<T, E, F: FnMut(&T) -> Result<(), E>>(xs: &[T], f: &mut F) -> Result<(), E>
-    requires { F.IsAlwaysCallable f.old }
-    ensures calls { StopsAtErr lent F.FnMut f.old xs.now result f.new }
-    ensures callable { F.IsAlwaysCallable f.new }
+    requires { Takes lent F.FnMut f.old xs.now }
+    ensures { StopsAtErr lent F.FnMut f.old xs.now result f.new }
 {
     let mut rest = xs;
     while let Some((x, tail)) = rest.split_first() {
@@ -153,9 +171,8 @@ pub(crate) fn each<T, E, F: FnMut(&T) -> Result<(), E>>(xs: &[T], f: &mut F) -> 
 }
 
 fn pairs<T, E, F: FnMut(&T) -> Result<(), E>>(xs: &[(T, T)], f: &mut F) -> Result<(), E>
-    requires { F.IsAlwaysCallable f.old }
-    ensures calls { StopsAtErr lent F.FnMut f.old (flat_map pair_places xs.now) result f.new }
-    ensures callable { F.IsAlwaysCallable f.new }
+    requires { Takes lent F.FnMut f.old (flat_map pair_places xs.now) }
+    ensures { StopsAtErr lent F.FnMut f.old (flat_map pair_places xs.now) result f.new }
 {
     let mut rest = xs;
     while let Some((x, tail)) = rest.split_first() {
@@ -171,9 +188,8 @@ fn arguments<P: AstPayload, E, F: FnMut(&AstExprP<P>) -> Result<(), E>>(
     xs: &[AstArgumentP<P>],
     f: &mut F,
 ) -> Result<(), E>
-    requires { F.IsAlwaysCallable f.old }
-    ensures calls { StopsAtErr lent F.FnMut f.old (map argument_place xs.now) result f.new }
-    ensures callable { F.IsAlwaysCallable f.new }
+    requires { Takes lent F.FnMut f.old (map argument_place xs.now) }
+    ensures { StopsAtErr lent F.FnMut f.old (map argument_place xs.now) result f.new }
 {
     let mut rest = xs;
     while let Some((x, tail)) = rest.split_first() {
@@ -189,13 +205,12 @@ pub(crate) fn parameters<P: AstPayload, E, F: FnMut(&AstExprP<P>) -> Result<(), 
     xs: &[AstParameterP<P>],
     f: &mut F,
 ) -> Result<(), E>
-    requires { F.IsAlwaysCallable f.old }
-    ensures calls { StopsAtErr lent F.FnMut f.old (flat_map (λ p. parameter_places p.node) xs.now) result f.new }
-    ensures callable { F.IsAlwaysCallable f.new }
+    requires { Takes lent F.FnMut f.old (flat_map (λ p. parameter_places p.node) xs.now) }
+    ensures { StopsAtErr lent F.FnMut f.old (flat_map (λ p. parameter_places p.node) xs.now) result f.new }
 {
     let mut rest = xs;
     while let Some((x, tail)) = rest.split_first() {
-        if let Err(e) = x.node.visit_expr_err(f) {
+        if let Err(e) = x.node.lend_exprs(f) {
             return Err(e);
         }
         rest = tail;
@@ -207,13 +222,12 @@ fn clauses<P: AstPayload, E, F: FnMut(&AstExprP<P>) -> Result<(), E>>(
     xs: &[ClauseP<P>],
     f: &mut F,
 ) -> Result<(), E>
-    requires { F.IsAlwaysCallable f.old }
-    ensures calls { StopsAtErr lent F.FnMut f.old (flat_map clause_places xs.now) result f.new }
-    ensures callable { F.IsAlwaysCallable f.new }
+    requires { Takes lent F.FnMut f.old (flat_map clause_places xs.now) }
+    ensures { StopsAtErr lent F.FnMut f.old (flat_map clause_places xs.now) result f.new }
 {
     let mut rest = xs;
     while let Some((x, tail)) = rest.split_first() {
-        if let Err(e) = x.visit_expr_err(f) {
+        if let Err(e) = x.lend_exprs(f) {
             return Err(e);
         }
         rest = tail;
@@ -226,9 +240,8 @@ pub(crate) fn target<P: AstPayload, E, F: FnMut(&AstExprP<P>) -> Result<(), E>>(
     whole: &AssignTargetP<P>,
     f: &mut F,
 ) -> Result<(), E>
-    requires { F.IsAlwaysCallable f.old }
-    ensures calls { StopsAtErr lent F.FnMut f.old (target_places whole.now) result f.new }
-    ensures callable { F.IsAlwaysCallable f.new }
+    requires { Takes lent F.FnMut f.old (target_places whole.now) }
+    ensures { StopsAtErr lent F.FnMut f.old (target_places whole.now) result f.new }
 {
     match whole {
         AssignTargetP::Tuple(xs) => {
@@ -265,10 +278,7 @@ fn lvalues<P: AstPayload, F: FnMut(&AstAssignIdentP<P>)>(whole: &AssignTargetP<P
 impl<P: AstPayload> VisitExpr<P> for ParameterP<P> {
     ghost parts = { parameter_places };
 
-    fn visit_expr_err<E, F: FnMut(&AstExprP<P>) -> Result<(), E>>(
-        &self,
-        f: &mut F,
-    ) -> Result<(), E> {
+    fn lend_exprs<E, F: FnMut(&AstExprP<P>) -> Result<(), E>>(&self, f: &mut F) -> Result<(), E> {
         match self {
             ParameterP::Slash => Ok(()),
             ParameterP::Normal(_, ty, default) => {
@@ -287,10 +297,7 @@ impl<P: AstPayload> VisitExpr<P> for ParameterP<P> {
 impl<P: AstPayload> VisitExpr<P> for AssignTargetP<P> {
     ghost parts = { target_places };
 
-    fn visit_expr_err<E, F: FnMut(&AstExprP<P>) -> Result<(), E>>(
-        &self,
-        f: &mut F,
-    ) -> Result<(), E> {
+    fn lend_exprs<E, F: FnMut(&AstExprP<P>) -> Result<(), E>>(&self, f: &mut F) -> Result<(), E> {
         target(self, f)
     }
 }
@@ -306,10 +313,7 @@ impl<P: AstPayload> VisitLvalue<P> for AssignTargetP<P> {
 impl<P: AstPayload> VisitExpr<P> for ForClauseP<P> {
     ghost parts = { for_clause_places };
 
-    fn visit_expr_err<E, F: FnMut(&AstExprP<P>) -> Result<(), E>>(
-        &self,
-        f: &mut F,
-    ) -> Result<(), E> {
+    fn lend_exprs<E, F: FnMut(&AstExprP<P>) -> Result<(), E>>(&self, f: &mut F) -> Result<(), E> {
         if let Err(e) = target(&self.var.node, f) {
             return Err(e);
         }
@@ -320,12 +324,9 @@ impl<P: AstPayload> VisitExpr<P> for ForClauseP<P> {
 impl<P: AstPayload> VisitExpr<P> for ClauseP<P> {
     ghost parts = { clause_places };
 
-    fn visit_expr_err<E, F: FnMut(&AstExprP<P>) -> Result<(), E>>(
-        &self,
-        f: &mut F,
-    ) -> Result<(), E> {
+    fn lend_exprs<E, F: FnMut(&AstExprP<P>) -> Result<(), E>>(&self, f: &mut F) -> Result<(), E> {
         match self {
-            ClauseP::For(x) => x.visit_expr_err(f),
+            ClauseP::For(x) => x.lend_exprs(f),
             ClauseP::If(x) => one(x, f),
         }
     }
@@ -334,10 +335,7 @@ impl<P: AstPayload> VisitExpr<P> for ClauseP<P> {
 impl<P: AstPayload> VisitExpr<P> for ExprP<P> {
     ghost parts = { children };
 
-    fn visit_expr_err<E, F: FnMut(&AstExprP<P>) -> Result<(), E>>(
-        &self,
-        f: &mut F,
-    ) -> Result<(), E> {
+    fn lend_exprs<E, F: FnMut(&AstExprP<P>) -> Result<(), E>>(&self, f: &mut F) -> Result<(), E> {
         match self {
             ExprP::Tuple(xs) => each(xs, f),
             ExprP::Dot(x, _) => boxed(x, f),
@@ -378,7 +376,7 @@ impl<P: AstPayload> VisitExpr<P> for ExprP<P> {
             ExprP::List(xs) => each(xs, f),
             ExprP::Dict(xs) => pairs(xs, f),
             ExprP::ListComprehension(x, first, rest) => {
-                if let Err(e) = first.visit_expr_err(f) {
+                if let Err(e) = first.lend_exprs(f) {
                     return Err(e);
                 }
                 if let Err(e) = clauses(rest, f) {
@@ -387,7 +385,7 @@ impl<P: AstPayload> VisitExpr<P> for ExprP<P> {
                 boxed(x, f)
             }
             ExprP::DictComprehension(x, first, rest) => {
-                if let Err(e) = first.visit_expr_err(f) {
+                if let Err(e) = first.lend_exprs(f) {
                     return Err(e);
                 }
                 if let Err(e) = clauses(rest, f) {

@@ -5,6 +5,7 @@ ghost use Rattle.starlark_ast.specs.Calls.{lent, CalledOn, CallsEach, StopsAtErr
 ghost use Rattle.starlark_ast.specs.Statements.{assign_places, def_places, exprs_below, for_places, maybe_here, maybe_type_here, outer_exprs, stmts_below};
 ghost use Rattle.starlark_visit.specs.Listed.{listed};
 ghost use Rattle.starlark_visit.specs.Steps.{StepsUntil};
+ghost use Rattle.starlark_visit.specs.Takes.{Takes};
 
 use crate::visit::{VisitExpr, boxed, each, maybe_type, one, parameters, target, two};
 use starlark_ast::ast::{AssignP, AstExprP, AstPayload, AstStmtP, AstTypeExprP, DefP, ForP, StmtP};
@@ -128,9 +129,8 @@ fn lend_all<S, E, V: StmtVisitor<S, E>>(xs: StmtsBelow<'_, S>, v: &mut V) -> Res
 }
 
 fn held<T, E, F: FnMut(&T) -> Result<(), E>>(x: &Option<T>, f: &mut F) -> Result<(), E>
-    requires { F.IsAlwaysCallable f.old }
-    ensures calls { StopsAtErr lent F.FnMut f.old (maybe_here x.now) result f.new }
-    ensures callable { F.IsAlwaysCallable f.new }
+    requires { Takes lent F.FnMut f.old (maybe_here x.now) }
+    ensures { StopsAtErr lent F.FnMut f.old (maybe_here x.now) result f.new }
 {
     match x {
         None => Ok(()),
@@ -142,9 +142,8 @@ fn held_type<P: AstPayload, E, F: FnMut(&AstExprP<P>) -> Result<(), E>>(
     x: &Option<AstTypeExprP<P>>,
     f: &mut F,
 ) -> Result<(), E>
-    requires { F.IsAlwaysCallable f.old }
-    ensures calls { StopsAtErr lent F.FnMut f.old (maybe_type_here x.now) result f.new }
-    ensures callable { F.IsAlwaysCallable f.new }
+    requires { Takes lent F.FnMut f.old (maybe_type_here x.now) }
+    ensures { StopsAtErr lent F.FnMut f.old (maybe_type_here x.now) result f.new }
 {
     match x {
         None => Ok(()),
@@ -156,9 +155,8 @@ fn assign<P: AstPayload, E, F: FnMut(&AstExprP<P>) -> Result<(), E>>(
     x: &AssignP<P>,
     f: &mut F,
 ) -> Result<(), E>
-    requires { F.IsAlwaysCallable f.old }
-    ensures calls { StopsAtErr lent F.FnMut f.old (assign_places x.now) result f.new }
-    ensures callable { F.IsAlwaysCallable f.new }
+    requires { Takes lent F.FnMut f.old (assign_places x.now) }
+    ensures { StopsAtErr lent F.FnMut f.old (assign_places x.now) result f.new }
 {
     if let Err(e) = target(&x.lhs.node, f) {
         return Err(e);
@@ -173,9 +171,8 @@ fn for_head<P: AstPayload, E, F: FnMut(&AstExprP<P>) -> Result<(), E>>(
     x: &ForP<P>,
     f: &mut F,
 ) -> Result<(), E>
-    requires { F.IsAlwaysCallable f.old }
-    ensures calls { StopsAtErr lent F.FnMut f.old (for_places x.now) result f.new }
-    ensures callable { F.IsAlwaysCallable f.new }
+    requires { Takes lent F.FnMut f.old (for_places x.now) }
+    ensures { StopsAtErr lent F.FnMut f.old (for_places x.now) result f.new }
 {
     if let Err(e) = target(&x.var.node, f) {
         return Err(e);
@@ -186,10 +183,7 @@ fn for_head<P: AstPayload, E, F: FnMut(&AstExprP<P>) -> Result<(), E>>(
 impl<P: AstPayload> VisitExpr<P> for DefP<P> {
     ghost parts = { def_places };
 
-    fn visit_expr_err<E, F: FnMut(&AstExprP<P>) -> Result<(), E>>(
-        &self,
-        f: &mut F,
-    ) -> Result<(), E> {
+    fn lend_exprs<E, F: FnMut(&AstExprP<P>) -> Result<(), E>>(&self, f: &mut F) -> Result<(), E> {
         if let Err(e) = parameters(&self.params, f) {
             return Err(e);
         }
@@ -202,9 +196,8 @@ fn own<P: AstPayload, E, F: FnMut(&AstExprP<P>) -> Result<(), E>>(
     whole: &StmtP<P>,
     f: &mut F,
 ) -> Result<(), E>
-    requires { F.IsAlwaysCallable f.old }
-    ensures calls { StopsAtErr lent F.FnMut f.old (exprs_below whole.now) result f.new }
-    ensures callable { F.IsAlwaysCallable f.new }
+    requires { Takes lent F.FnMut f.old (exprs_below whole.now) }
+    ensures { StopsAtErr lent F.FnMut f.old (exprs_below whole.now) result f.new }
 {
     match whole {
         StmtP::Break => Ok(()),
@@ -223,19 +216,18 @@ fn own<P: AstPayload, E, F: FnMut(&AstExprP<P>) -> Result<(), E>>(
         StmtP::If(c, _) => one(c, f),
         StmtP::IfElse(c, _) => one(c, f),
         StmtP::For(x) => for_head(x, f),
-        StmtP::Def(x) => x.visit_expr_err(f),
+        StmtP::Def(x) => x.lend_exprs(f),
         StmtP::Load(_) => Ok(()),
     }
 }
 
 // the outermost expressions in the statement and the statements in it, up to the first `Err`
-pub(crate) fn outer<P: AstPayload, E, F: FnMut(&AstExprP<P>) -> Result<(), E>>(
+fn outer<P: AstPayload, E, F: FnMut(&AstExprP<P>) -> Result<(), E>>(
     whole: &StmtP<P>,
     f: &mut F,
 ) -> Result<(), E>
-    requires { F.IsAlwaysCallable f.old }
-    ensures calls { StopsAtErr lent F.FnMut f.old (outer_exprs whole.now) result f.new }
-    ensures callable { F.IsAlwaysCallable f.new }
+    requires { Takes lent F.FnMut f.old (outer_exprs whole.now) }
+    ensures { StopsAtErr lent F.FnMut f.old (outer_exprs whole.now) result f.new }
 {
     if let Err(e) = own(whole, f) {
         return Err(e);
@@ -265,10 +257,7 @@ pub(crate) fn outer<P: AstPayload, E, F: FnMut(&AstExprP<P>) -> Result<(), E>>(
 impl<P: AstPayload> VisitExpr<P> for StmtP<P> {
     ghost parts = { outer_exprs };
 
-    fn visit_expr_err<E, F: FnMut(&AstExprP<P>) -> Result<(), E>>(
-        &self,
-        f: &mut F,
-    ) -> Result<(), E> {
+    fn lend_exprs<E, F: FnMut(&AstExprP<P>) -> Result<(), E>>(&self, f: &mut F) -> Result<(), E> {
         outer(self, f)
     }
 }
@@ -310,10 +299,7 @@ pub(crate) struct Alone<'a, P: AstPayload> {
 impl<'a, P: AstPayload> VisitExpr<P> for Alone<'a, P> {
     ghost parts = { λ x. exprs_below x.statement.now };
 
-    fn visit_expr_err<E, F: FnMut(&AstExprP<P>) -> Result<(), E>>(
-        &self,
-        f: &mut F,
-    ) -> Result<(), E> {
+    fn lend_exprs<E, F: FnMut(&AstExprP<P>) -> Result<(), E>>(&self, f: &mut F) -> Result<(), E> {
         own(self.statement, f)
     }
 }

@@ -1,13 +1,13 @@
 use Rattle.std.proofs.Common.{length, map}
 use Rattle.starlark_ast.specs.Calls.{lent, StopsAtErr}
 use Rattle.starlark_ast.specs.Places.{argument_place}
-use denote.Param.Always.{always_mut}
+use Rattle.starlark_visit.specs.Takes.{Takes}
 use Rattle.starlark_visit.proofs.visit.arguments.Given as goal
 
 -- the calls at what is left are those that are still to come
 abbrev pub invariant-loop-x : goal.invariant-loop-x
 invariant-loop-x g l =
-    always_mut g.F.FnMut l.f
+    Takes lent g.F.FnMut l.f (map argument_place l.rest)
     × ((r : _) (last : _) → StopsAtErr lent g.F.FnMut l.f (map argument_place l.rest) r last → StopsAtErr lent g.F.FnMut l.fn.f (map argument_place l.fn.xs) r last)
 
 abbrev pub decreases-loop-x : goal.decreases-loop-x

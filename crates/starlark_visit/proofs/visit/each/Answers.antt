@@ -1,15 +1,19 @@
 use Rattle.std.proofs.lemmas.List.{nil_from_length}
-use Rattle.std.proofs.Common.{of_calls, refl}
+use Rattle.std.proofs.Common.{refl}
 use Rattle.starlark_ast.specs.Calls.{lent}
+use Rattle.starlark_visit.proofs.Taking.{first_taken, next_taken, takes_at}
 use Rattle.starlark_visit.proofs.Until.{until_none, until_ok, until_err, until_at}
 use Rattle.starlark_visit.proofs.visit.each.Goals as goal
 
-pub returns-in-Err-clause-calls : goal.returns-in-Err-clause-calls
-returns-in-Err-clause-calls g c = c.loop-x.invariant.1 _ _ (until_at lent g.F.FnMut (c.in-Some.ensures.cases.0) (until_err lent g.F.FnMut c.f.ensures c.in-Err.is refl refl))
+pub returns-in-Err : goal.returns-in-Err
+returns-in-Err g c = c.loop-x.invariant.1 _ _ (until_at lent g.F.FnMut (c.in-Some.ensures.cases.0) (until_err lent g.F.FnMut c.f.ensures c.in-Err.is refl refl))
+
+pub f-requires : goal.f-requires
+f-requires g c = first_taken lent g.F.FnMut (takes_at lent g.F.FnMut c.in-Some.ensures.cases.0 c.loop-x.invariant.0) refl
 
 pub loop-x-preserved : goal.loop-x-preserved
 loop-x-preserved g c =
-    (search of_calls, λ r last h. c.loop-x.invariant.1 r last (until_at lent g.F.FnMut (c.in-Some.ensures.cases.0) (until_ok lent g.F.FnMut c.f.ensures c.in_default-f.is refl h)))
+    (next_taken lent g.F.FnMut (takes_at lent g.F.FnMut c.in-Some.ensures.cases.0 c.loop-x.invariant.0) c.f.ensures c.in_default-f.is refl, λ r last h. c.loop-x.invariant.1 r last (until_at lent g.F.FnMut (c.in-Some.ensures.cases.0) (until_ok lent g.F.FnMut c.f.ensures c.in_default-f.is refl h)))
 
-pub returns-clause-calls : goal.returns-clause-calls
-returns-clause-calls g c = c.loop-x.invariant.1 _ _ (until_at lent g.F.FnMut ((nil_from_length _ c.in_default.ensures.cases)) (until_none lent g.F.FnMut refl))
+pub returns : goal.returns
+returns g c = c.loop-x.invariant.1 _ _ (until_at lent g.F.FnMut ((nil_from_length _ c.in_default.ensures.cases)) (until_none lent g.F.FnMut refl))

@@ -1,9 +1,13 @@
 use Rattle.std.proofs.Common.{ap}
 use Rattle.starlark_ast.specs.Calls.{lent}
+use Rattle.starlark_visit.proofs.Taking.{first_taken, takes_at}
 use Rattle.starlark_visit.proofs.Until.{until_last, until_at}
 use Rattle.starlark_ast.specs.Places.{maybe_place}
 use Rattle.starlark_visit.proofs.visit.maybe.Goals as goal
 
-pub returns-in-Some-clause-calls : goal.returns-in-Some-clause-calls
-returns-in-Some-clause-calls g c =
+pub returns-in-Some : goal.returns-in-Some
+returns-in-Some g c =
     until_at lent g.F.FnMut (ap maybe_place c.in-Some.is) (until_last lent g.F.FnMut c.f.ensures c.deref.ensures)
+
+pub f-requires : goal.f-requires
+f-requires g c = first_taken lent g.F.FnMut (takes_at lent g.F.FnMut (ap maybe_place c.in-Some.is) c.requires) c.deref.ensures

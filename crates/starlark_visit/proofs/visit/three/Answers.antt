@@ -1,12 +1,19 @@
 use Rattle.std.proofs.Common.{refl}
 use Rattle.starlark_ast.specs.Calls.{lent}
+use Rattle.starlark_visit.proofs.Taking.{first_taken, next_taken}
 use Rattle.starlark_visit.proofs.Until.{until_ok, until_err}
 use Rattle.starlark_visit.proofs.visit.three.Goals as goal
 
-pub returns-in-Err-clause-calls : goal.returns-in-Err-clause-calls
-returns-in-Err-clause-calls g c =
+pub f-requires : goal.f-requires
+f-requires g c = first_taken lent g.F.FnMut c.requires refl
+
+pub returns-in-Err : goal.returns-in-Err
+returns-in-Err g c =
     until_err lent g.F.FnMut c.f.ensures c.in-Err.is refl refl
 
-pub returns-clause-calls : goal.returns-clause-calls
-returns-clause-calls g c =
-    until_ok lent g.F.FnMut c.f.ensures c.in_default.is refl c.two.ensures.calls
+pub two-requires : goal.two-requires
+two-requires g c = next_taken lent g.F.FnMut c.requires c.f.ensures c.in_default.is refl
+
+pub returns : goal.returns
+returns g c =
+    until_ok lent g.F.FnMut c.f.ensures c.in_default.is refl c.two.ensures

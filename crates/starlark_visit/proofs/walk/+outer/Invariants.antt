@@ -1,8 +1,8 @@
-use Rattle.std.proofs.Common.{take, flat_map, Ok}
-use denote.Param.Always.{always_mut}
+use Rattle.std.proofs.Common.{take, drop, flat_map, Ok}
 use Rattle.starlark_ast.specs.Calls.{lent, StopsAtErr}
 use Rattle.starlark_ast.proofs.Tops.{count}
 use Rattle.starlark_ast.specs.Statements.{outer_exprs}
+use Rattle.starlark_visit.specs.Takes.{Takes}
 use Rattle.starlark_visit.proofs.walk.+outer.Given as goal
 
 abbrev pub decreases-outer : goal.decreases-outer
@@ -10,5 +10,5 @@ decreases-outer g l = count l.whole.now
 
 abbrev pub invariant-loop-x : goal.invariant-loop-x
 invariant-loop-x g l =
-    always_mut g.F.FnMut l.f
+    Takes lent g.F.FnMut l.f (flat_map (λ x. outer_exprs x.node) (drop l.x-index l.x-items))
     × StopsAtErr lent g.F.FnMut l.initial.f (flat_map (λ x. outer_exprs x.node) (take l.x-index l.x-items)) (Ok tt) l.f
