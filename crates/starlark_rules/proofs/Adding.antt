@@ -10,7 +10,7 @@ use Rattle.starlark_ast.specs.StatementViews.{statements_of}
 use Rattle.starlark_ast.specs.View.{stmt_at}
 use Rattle.starlark_rulebook.specs.declared.rule.Rule.{Rule}
 use Rattle.starlark_rulebook.specs.Found.{Adds, findings}
-use Rattle.starlark_rulebook.specs.Late.{Standing, statement_rules, sequence_rules, expressions_rules, inner_rules}
+use Rattle.starlark_rulebook.specs.Late.{Standing, statement_rules, sequence_rules}
 use Rattle.starlark_rulebook.specs.Rules.{Finding}
 
 pub adds_as : {before after : List (Spanned Rule)} (found other : List Finding) → found ≡ other → Adds before found after → Adds before other after
@@ -32,6 +32,3 @@ ok_then after first then_found whole (Err x) h k e = k
 module _ {P L I A D T : Type 0} where
   pub rules_more : (d : Dialect) (p : Standing) (xs : List (Spanned (StmtP P L I A D T))) (i : ℕ) (x : Spanned (StmtP P L I A D T)) → i < length xs → x ≡ get_or xs i x → sequence_rules d p (statements_of (take i xs)) ++ statement_rules d p (stmt_at x) ≡ sequence_rules d p (statements_of (take (i + 1) xs))
   rules_more d p xs i x below is = sym (ap (λ ys. sequence_rules d p (statements_of ys)) (take_more xs i x below) ∙ ap (sequence_rules d p) (fold-append (λ ss y. t.add_statement ss (stmt_at y)) t.no_statements (take i xs) (get_or xs i x ∷ [])) ∙ ap (λ y. sequence_rules d p (statements_of (take i xs)) ++ statement_rules d p (stmt_at y)) (sym is))
-
-  pub inner_more : (d : Dialect) (xs : List (Spanned (StmtP P L I A D T))) (i : ℕ) (x : Spanned (StmtP P L I A D T)) → i < length xs → x ≡ get_or xs i x → inner_rules d (statements_of (take i xs)) ++ expressions_rules d (stmt_at x) ≡ inner_rules d (statements_of (take (i + 1) xs))
-  inner_more d xs i x below is = sym (ap (λ ys. inner_rules d (statements_of ys)) (take_more xs i x below) ∙ ap (inner_rules d) (fold-append (λ ss y. t.add_statement ss (stmt_at y)) t.no_statements (take i xs) (get_or xs i x ∷ [])) ∙ ap (λ y. inner_rules d (statements_of (take i xs)) ++ expressions_rules d (stmt_at y)) (sym is))

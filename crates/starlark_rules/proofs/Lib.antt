@@ -3,7 +3,6 @@ mod Examples
 pub mod Nodes
 pub mod Prefixes
 pub mod Converting
-pub mod Sizes
 pub mod Within
 pub mod Unpacking
 pub mod ParameterLists
@@ -11,3 +10,9 @@ pub mod Forms
 pub mod Misfits
 pub mod Places
 pub mod Firsts
+pub mod Layers
+pub mod Levels
+pub mod Outermost
+pub mod Smaller
+pub mod Targets
+pub mod Visiting

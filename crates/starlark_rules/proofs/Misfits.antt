@@ -15,7 +15,7 @@ use Rattle.starlark_rulebook.specs.View.{type_fault_view}
 use Rattle.starlark_rules.specs.declared.types.Stop.{Stop}
 use Rattle.starlark_rules.specs.declared.types.Stop.TheVariants.{NoType, Memory}
 use Rattle.starlark_rules.proofs.Prefixes.{members_more}
-use Rattle.starlark_rules.proofs.Sizes.{size, sizes}
+use Rattle.starlark_rules.specs.Sizes.{size, sizes}
 
 -- ---- the same fault
 

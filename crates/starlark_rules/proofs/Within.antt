@@ -1,5 +1,5 @@
 -- One of several: it is smaller than all of them, and what it breaks comes behind what those before it break.
-use Rattle.std.proofs.Common.{ℕ, suc, ◌+◌, ◌<◌, ◌≤◌, ◌≡◌, sym, ap, ◌∙◌, List, [], ◌∷◌, ◌++◌, length, take, drop, take-append-drop, get_or, fold, refl, arith}
+use Rattle.std.proofs.Common.{ℕ, suc, ◌+◌, ◌<◌, ◌≤◌, ◌≡◌, sym, ap, ◌∙◌, List, [], ◌∷◌, length, take, drop, take-append-drop, get_or, fold, refl, arith}
 use Rattle.std.proofs.lemmas.List.{take_more}
 use Rattle.std.proofs.lemmas.List.Sums.{fold-append}
 use Rattle.starlark_place.specs.Place.{Extent}
@@ -24,11 +24,11 @@ use Rattle.starlark_ast.specs.declared.ast.ArgumentP.TheOpen as layer
 use Rattle.starlark_ast.specs.declared.ast.ArgumentP.TheVariants as argument
 use Rattle.starlark_rulebook.specs.Late as late
 use Rattle.starlark_rules.proofs.Prefixes.{members_more}
-use Rattle.starlark_rules.proofs.Sizes.{size, member_size, sizes, clause_size, clause_sizes}
+use Rattle.starlark_rules.specs.Sizes.{size, member_size, sizes, clause_size, clause_sizes}
 
 -- ---- members
 
-more_sizes : {X : Type 0} (h : X → Member) (ms : Members) (xs : List X) → sizes ms ≤ sizes (fold (λ ns y. t.more ns (h y)) ms xs)
+pub more_sizes : {X : Type 0} (h : X → Member) (ms : Members) (xs : List X) → sizes ms ≤ sizes (fold (λ ns y. t.more ns (h y)) ms xs)
 more_sizes h ms [] = omega arith
 more_sizes h ms (x ∷ xs) = omega (arith, more_sizes h (t.more ms (h x)) xs)
 
@@ -37,9 +37,6 @@ member_is_less h xs i x below is =
     let front : sizes (members h (take (i + 1) xs)) ≡ suc (sizes (members h (take i xs)) + member_size (h x)) = ap sizes (members_more h xs i x below is) in
     let whole : sizes (members h xs) ≡ sizes (fold (λ ns y. t.more ns (h y)) (members h (take (i + 1) xs)) (drop (i + 1) xs)) = ap (λ ys. sizes (members h ys)) (sym (take-append-drop (i + 1) xs)) ∙ ap sizes (fold-append (λ ns y. t.more ns (h y)) t.none (take (i + 1) xs) (drop (i + 1) xs)) in
     omega (arith, front, whole, more_sizes h (members h (take (i + 1) xs)) (drop (i + 1) xs))
-
-pub member_breaks : {X : Type 0} (d : Dialect) (h : X → Member) (xs : List X) (i : ℕ) (x : X) → i < length xs → x ≡ get_or xs i x → late.member_rules d (members h (take i xs)) ++ late.one_rules d (h x) ≡ late.member_rules d (members h (take (i + 1) xs))
-member_breaks d h xs i x below is = sym (ap (late.member_rules d) (members_more h xs i x below is))
 
 -- ---- clauses
 
@@ -59,9 +56,6 @@ clause_is_less h cs xs i x below is =
     let front : clause_sizes (behind h cs (take (i + 1) xs)) ≡ suc (suc (clause_sizes (behind h cs (take i xs)) + clause_size (h x))) = ap clause_sizes (clauses_more h cs xs i x below is) in
     let whole : clause_sizes (behind h cs xs) ≡ clause_sizes (behind h (behind h cs (take (i + 1) xs)) (drop (i + 1) xs)) = ap (λ ys. clause_sizes (behind h cs ys)) (sym (take-append-drop (i + 1) xs)) ∙ ap clause_sizes (fold-append (λ ds y. t.and_clause ds (h y)) cs (take (i + 1) xs) (drop (i + 1) xs)) in
     omega (arith, front, whole, more_clauses h (behind h cs (take (i + 1) xs)) (drop (i + 1) xs))
-
-pub clause_breaks : {X : Type 0} (d : Dialect) (h : X → Clause) (cs : Clauses) (xs : List X) (i : ℕ) (x : X) → i < length xs → x ≡ get_or xs i x → late.clause_rules d (behind h cs (take i xs)) ++ late.one_clause_rules d (h x) ≡ late.clause_rules d (behind h cs (take (i + 1) xs))
-clause_breaks d h cs xs i x below is = sym (ap (late.clause_rules d) (clauses_more h cs xs i x below is))
 
 -- ---- arguments
 

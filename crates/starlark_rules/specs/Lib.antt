@@ -2,7 +2,9 @@ pub mod Assignable
 pub mod Forms
 pub mod Misfits
 pub mod Named
+pub mod Levels
 pub mod ParameterKinds
+pub mod Sizes
 pub mod Standings
 pub mod Tallies
 pub mod Unpacked

@@ -7,7 +7,7 @@ use Rattle.starlark_rulebook.specs.Kept as kept
 use Rattle.starlark_rulebook.specs.Rules.{first_finding, listed}
 use Rattle.starlark_rulebook.specs.View.{finding_of}
 use Rattle.starlark_rules.proofs.Firsts.{argument_keeps, at_clause, at_front, at_member, first_listed, given, past, past_clause, past_member, stays}
-use Rattle.starlark_rules.proofs.Sizes.{size, sizes, clause_sizes}
+use Rattle.starlark_rules.specs.Sizes.{size, sizes, clause_sizes}
 use Rattle.starlark_rules.proofs.Within.{argument_size, clause_is_less, member_is_less, more_clauses}
 use Rattle.starlark_rules.proofs.kept_expressions.+kept.Goals as goal
 
