@@ -7,6 +7,7 @@ use starlark_parser::fields::AstModuleFields;
 use starlark_parser::module::AstModule;
 use starlark_place::codemap::CodeMapId;
 use starlark_write::below::{visit_stmt_err_mut, visit_stmt_mut};
+use starlark_write::nodes_mut::{NodeVisitorMut, VisitChildrenMut};
 use starlark_write::tops::top_level_stmts_mut;
 use starlark_write::type_exprs::VisitTypeExprErrMut;
 use starlark_write::visit_mut::VisitExprMut;
@@ -38,6 +39,45 @@ fn printed(rt: &impl Abort, alloc: Global, tree: AstStmt, want: &str) -> Result<
 
 fn pass(x: &mut AstStmt) {
     mem::forget(mem::replace(&mut x.node, StmtP::Pass))
+}
+
+fn empty(alloc: Global, x: &mut AstExpr) {
+    mem::forget(mem::replace(&mut x.node, ExprP::Tuple(Vec::new(alloc))))
+}
+
+// empties each node, and stops at the third
+#[derive(Drop)]
+struct Empties {
+    alloc: Global,
+    calls: u64,
+}
+
+impl Empties {
+    fn counted(&mut self) -> Result<(), u64> {
+        self.calls = self.calls.wrapping_add(1);
+        if self.calls == 3 {
+            return Err(self.calls);
+        }
+        Ok(())
+    }
+}
+
+impl NodeVisitorMut<AstStmt, AstExpr, u64> for Empties {
+    ghost ready = { λ s. Unit {0} };
+
+    ghost leaves = { λ s x r t y. Unit {0} };
+
+    fn at_stmt(&mut self, x: &mut AstStmt) -> Result<(), u64> {
+        self.counted()?;
+        pass(x);
+        Ok(())
+    }
+
+    fn at_expr(&mut self, x: &mut AstExpr) -> Result<(), u64> {
+        self.counted()?;
+        empty(self.alloc, x);
+        Ok(())
+    }
 }
 
 fn noted(so_far: u64, begin: u32) -> u64 {
@@ -85,9 +125,8 @@ fn stops_below(rt: HostRuntime) -> Result<(), Fail> {
 fn outermost_expressions(rt: HostRuntime) -> Result<(), Fail> {
     let alloc = rt.alloc();
     let mut tree = tree(alloc, "x = a + b\nif c:\n  d\n")?;
-    tree.node.visit_expr_mut(&mut |x: &mut AstExpr| {
-        mem::forget(mem::replace(&mut x.node, ExprP::Tuple(Vec::new(alloc))))
-    });
+    tree.node
+        .visit_expr_mut(&mut |x: &mut AstExpr| empty(alloc, x));
     Ok(printed(&rt, alloc, tree, "x = ()\nif ():\n  ()\n")?)
 }
 
@@ -105,4 +144,25 @@ fn types(rt: HostRuntime) -> Result<(), Fail> {
     assert_eq!(rt; answer, Ok(()));
     assert_eq!(rt; seen, 9_15);
     Ok(printed(&rt, alloc, tree, "def f(a: t) -> r:\n  pass\n")?)
+}
+
+#[test]
+fn nodes_below(rt: HostRuntime) -> Result<(), Fail> {
+    let alloc = rt.alloc();
+    let mut tree = tree(alloc, "for x[0] in y: z")?;
+    let mut empties = Empties { alloc, calls: 3 };
+    let answer = tree.node.lend_children_mut(&mut empties);
+    assert_eq!(rt; answer, Ok(()));
+    assert_eq!(rt; empties.calls, 7);
+    Ok(printed(&rt, alloc, tree, "for ()[()] in ():\n  pass\n")?)
+}
+
+#[test]
+fn stops_at_a_node(rt: HostRuntime) -> Result<(), Fail> {
+    let alloc = rt.alloc();
+    let mut tree = tree(alloc, "if a:\n  b\nelse:\n  c\n")?;
+    let mut empties = Empties { alloc, calls: 0 };
+    let answer = tree.node.lend_children_mut(&mut empties);
+    assert_eq!(rt; answer, Err(3));
+    Ok(printed(&rt, alloc, tree, "if ():\n  pass\nelse:\n  c\n")?)
 }
