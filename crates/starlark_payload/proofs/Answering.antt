@@ -1,5 +1,5 @@
 -- Calls of a payload function, one list of payloads behind another.
-use Rattle.std.proofs.Common.{◌≡◌, refl, sym, ap, ◌∙◌, subst, List, [], ◌∷◌, ◌++◌, append_assoc, append-nil, Result, Ok, Err, IfOk, OnErr}
+use Rattle.std.proofs.Common.{◌≡◌, refl, sym, ap, ◌∙◌, subst, List, [], ◌∷◌, ◌++◌, append_assoc, append-nil, Result, Ok, Err, OnErr}
 use Rattle.starlark_payload.specs.Payloads.{Answered, Answers, Begins}
 
 module _ {S X Y : Type 0} (R : S → X → Y → S → Type 0) where
@@ -27,6 +27,9 @@ module _ {S X Y : Type 0} (R : S → X → Y → S → Type 0) where
   pub begins_all : {xs : List X} {ys : List Y} {s t : S} → Answers R s xs t ys → Begins R s xs t
   begins_all {xs} {ys} h = record { front = xs; back = []; whole = sym (append-nil xs); answers = ys; told = h }
 
+  pub begins_none : {s : S} (xs : List X) → Begins R s xs s
+  begins_none xs = record { front = []; back = xs; whole = refl; answers = []; told = answers_none }
+
   pub begins_more : {xs zs : List X} {ys : List Y} {s t u : S} → Answers R s xs t ys → Begins R t zs u → Begins R s (xs ++ zs) u
   begins_more {xs} {zs} {ys} h k =
       record { front = xs ++ k.front; back = k.back; whole = ap (λ q. xs ++ q) k.whole ∙ sym (append_assoc xs k.front k.back); answers = ys ++ k.answers; told = answers_append h k.told }
@@ -42,13 +45,3 @@ module _ {S X Y : Type 0} (R : S → X → Y → S → Type 0) where
 pub on_err : {T E P : Type 0} (r : Result T E) → P → OnErr r P
 on_err (Ok x) p = tt
 on_err (Err e) p = p
-
--- what is made has these payloads
-pub made_called : {S X Y Z E : Type 0} {R : S → X → Y → S → Type 0} {s t : S} {xs zs : List X} {ys : List Y} (r : Result Z E) (p : Z → List Y) → IfOk r (λ z. p z ≡ ys) → xs ≡ zs → Answers R s zs t ys → IfOk r (λ z. Answers R s xs t (p z))
-made_called {S} {X} {Y} {Z} {E} {R} (Ok z) p e d h = answers_at R d e h
-made_called (Err e) p is d h = tt
-
--- what is made has this plain data
-pub made_kept : {Z E V : Type 0} {a b m : V} (r : Result Z E) (v : Z → V) → IfOk r (λ z. v z ≡ a) → a ≡ b → m ≡ b → IfOk r (λ z. v z ≡ m)
-made_kept (Ok z) v e d k = e ∙ (d ∙ sym k)
-made_kept (Err e) v is d k = tt

@@ -2,7 +2,6 @@ pub mod Answering
 pub mod FStrings
 pub mod Listed
 pub mod Loops
-pub mod Naming
 pub mod Opening
 pub mod Parts
 pub mod StatementOpening

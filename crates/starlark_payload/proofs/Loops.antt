@@ -3,7 +3,7 @@ use Rattle.std.proofs.Common.{◌≡◌, refl, sym, ap, ◌∙◌, List, [], ◌
 use Rattle.std.proofs.lemmas.List.{reverse-append, reverse-reverse, map-append}
 use Rattle.starlark_payload.specs.Payloads.{Answers, Begins}
 use Rattle.starlark_payload.specs.Weights.{total}
-use Rattle.starlark_payload.proofs.Answering.{answers_append, answers_at, answers_none, begins_at, begins_more, begins_within}
+use Rattle.starlark_payload.proofs.Answering.{answers_append, answers_at, answers_none, begins_at, begins_more, begins_none, begins_within}
 use Rattle.starlark_payload.proofs.Listed.{flat_map_last, flat_map_split}
 
 total_append : {X : Type 0} (n : X → ℕ) (xs ys : List X) → total n (xs ++ ys) ≡ total n xs + total n ys
@@ -40,6 +40,9 @@ module _ {S PA PB V X Y : Type 0} {R : S → PA → PB → S → Type 0} {h : X 
   pub done_stops : {s t u : S} {xs rest : List X} {done : List Y} {x : X} (back : List X) → Done R h k v w s xs rest t done → rest ≡ back ++ x ∷ [] → Begins R t (h x) u → Begins R s (flat_map h xs) u
   done_stops {s} {t} {u} {xs} {rest} {done} {x} back d e b =
       begins_at R (ap (flat_map h) (split x back d e) ∙ flat_map_split h d.front x (reverse back)) (begins_more R d.called (begins_within R (flat_map h (reverse back)) b))
+
+  pub done_waits : {s t : S} {xs rest : List X} {done : List Y} (x : X) (back : List X) → Done R h k v w s xs rest t done → rest ≡ back ++ x ∷ [] → Begins R s (flat_map h xs) t
+  done_waits x back d e = done_stops back d e (begins_none R (h x))
 
   pub done_weighs : {s t : S} {xs rest : List X} {done : List Y} {x : X} (back : List X) (n : X → ℕ) → Done R h k v w s xs rest t done → rest ≡ back ++ x ∷ [] → suc (n x) ≤ total n xs
   done_weighs {s} {t} {xs} {rest} {done} {x} back n d e =

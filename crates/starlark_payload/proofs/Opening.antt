@@ -11,11 +11,10 @@ use Rattle.starlark_ast.specs.Tree as tree
 use Rattle.starlark_ast.specs.View.{argument_view, boxed_expr, boxed_type, clause_view, expr_at, expr_view, for_clause_view, members, parameter_of, parameter_view, target_view, type_view}
 use Rattle.starlark_ast.specs.Views.{expr_view-Tuple, expr_view-Call, expr_view-Slice, expr_view-Lambda, expr_view-List, expr_view-Dict, expr_view-ListComprehension, expr_view-DictComprehension, expr_view-FString, parameter_view-Normal, parameter_view-Args, parameter_view-KwArgs, target_view-Tuple, view-args, view-fstring, view-lambda, members-map, clauses-map}
 use Rattle.starlark_ast.specs.declared.ast.AssignIdentP.{AssignIdentP}
-use Rattle.starlark_ast.specs.declared.ast.ArgumentP.{ArgumentP}
 use Rattle.starlark_ast.specs.declared.ast.AssignTargetP.{AssignTargetP, fold-roll-AssignTargetP}
 use Rattle.starlark_ast.specs.declared.ast.ClauseP.{ClauseP}
 use Rattle.starlark_ast.specs.declared.ast.ExprP.{ExprP, fold-roll-ExprP}
-use Rattle.starlark_ast.specs.declared.ast.ParameterP.{ParameterP, fold-roll-ParameterP}
+use Rattle.starlark_ast.specs.declared.ast.ParameterP.{fold-roll-ParameterP}
 use Rattle.starlark_ast.specs.declared.ast.CallArgsP.{CallArgsP, fold_out-CallArgsP}
 use Rattle.starlark_ast.specs.declared.ast.FStringP.{FStringP, fold_out-FStringP}
 use Rattle.starlark_ast.specs.declared.ast.ForClauseP.{ForClauseP}
@@ -184,77 +183,3 @@ module _ {P L I A D T : Type 0} where
   pub KwArgs_weight : (x : Spanned (AssignIdentP P L I A D T)) (t : Option (Box (Spanned (TypeExprP P L I A D T)) Global)) → parameter_weight (param.KwArgs x t) ≡ suc (maybe_weight type_weight (unboxed t))
   KwArgs_weight x None = ap parameter_weight (sym (param.rolls-KwArgs x None)) ∙ fold-roll-ParameterP P L I A D T _ _ _ _ _ _ _ _ _ _ argument_weights target_weights clause_weights expr_weights parameter_weights call_args_weights fstring_weights for_clause_weights lambda_weights type_weights (layer.ParameterP::KwArgs x None)
   KwArgs_weight x (Some t) = ap parameter_weight (sym (param.rolls-KwArgs x (Some t))) ∙ fold-roll-ParameterP P L I A D T _ _ _ _ _ _ _ _ _ _ argument_weights target_weights clause_weights expr_weights parameter_weights call_args_weights fstring_weights for_clause_weights lambda_weights type_weights (layer.ParameterP::KwArgs x (Some t))
-
-  -- the same at what the boxes hold
-
-  pub Call_view_of : (b : Box (Spanned (ExprP P L I A D T)) Global) (a : CallArgsP P L I A D T) (x : Spanned (ExprP P L I A D T)) (xs : Vec (Spanned (ArgumentP P L I A D T)) Global) → b.value ≡ x → a.args ≡ xs → expr_view (expr.Call b a) ≡ tree.call (expr_view x.node x.span) (members same_member (map (λ y. argument_view y.node y.span) xs.items))
-  Call_view_of b a x xs ex exs = Call_view b a ∙ ap (λ z. tree.call (expr_view z.node z.span) (members same_member (map (λ y. argument_view y.node y.span) a.args.items))) ex ∙ ap (λ z. tree.call (expr_view x.node x.span) (members same_member (map (λ y. argument_view y.node y.span) z.items))) exs
-
-  pub Call_payloads_of : (b : Box (Spanned (ExprP P L I A D T)) Global) (a : CallArgsP P L I A D T) (x : Spanned (ExprP P L I A D T)) (xs : Vec (Spanned (ArgumentP P L I A D T)) Global) → b.value ≡ x → a.args ≡ xs → expr_payloads (expr.Call b a) ≡ expr_payloads x.node ++ all_of argument_payloads xs.items
-  Call_payloads_of b a x xs ex exs = Call_payloads b a ∙ ap (λ z. expr_payloads z.node ++ all_of argument_payloads a.args.items) ex ∙ ap (λ z. expr_payloads x.node ++ all_of argument_payloads z.items) exs
-
-  pub Call_weight_of : (b : Box (Spanned (ExprP P L I A D T)) Global) (a : CallArgsP P L I A D T) (x : Spanned (ExprP P L I A D T)) (xs : Vec (Spanned (ArgumentP P L I A D T)) Global) → b.value ≡ x → a.args ≡ xs → expr_weight (expr.Call b a) ≡ suc (expr_weight x.node + total (node_weight argument_weight) xs.items)
-  Call_weight_of b a x xs ex exs = Call_weight b a ∙ ap (λ z. suc (expr_weight z.node + total (node_weight argument_weight) a.args.items)) ex ∙ ap (λ z. suc (expr_weight x.node + total (node_weight argument_weight) z.items)) exs
-
-  pub Lambda_view_of : (b : LambdaP P L I A D T) (x : Spanned (ExprP P L I A D T)) (xs : Vec (Spanned (ParameterP P L I A D T)) Global) → b.body.value ≡ x → b.params ≡ xs → expr_view (expr.Lambda b) ≡ tree.lambda (members same_member (map (λ y. parameter_view y.node y.span) xs.items)) (expr_view x.node x.span)
-  Lambda_view_of b x xs ex exs = Lambda_view b ∙ ap (λ z. tree.lambda (members same_member (map (λ y. parameter_view y.node y.span) b.params.items)) (expr_view z.node z.span)) ex ∙ ap (λ z. tree.lambda (members same_member (map (λ y. parameter_view y.node y.span) z.items)) (expr_view x.node x.span)) exs
-
-  pub Lambda_payloads_of : (b : LambdaP P L I A D T) (x : Spanned (ExprP P L I A D T)) (xs : Vec (Spanned (ParameterP P L I A D T)) Global) (d : D) → b.body.value ≡ x → b.params ≡ xs → b.payload ≡ d → expr_payloads (expr.Lambda b) ≡ all_of parameter_payloads xs.items ++ (expr_payloads x.node ++ OfDef d ∷ [])
-  Lambda_payloads_of b x xs d ex exs ed = Lambda_payloads b ∙ ap (λ z. all_of parameter_payloads b.params.items ++ (expr_payloads z.node ++ OfDef b.payload ∷ [])) ex ∙ ap (λ z. all_of parameter_payloads z.items ++ (expr_payloads x.node ++ OfDef b.payload ∷ [])) exs ∙ ap (λ z. all_of parameter_payloads xs.items ++ (expr_payloads x.node ++ OfDef z ∷ [])) ed
-
-  pub Lambda_weight_of : (b : LambdaP P L I A D T) (x : Spanned (ExprP P L I A D T)) (xs : Vec (Spanned (ParameterP P L I A D T)) Global) → b.body.value ≡ x → b.params ≡ xs → expr_weight (expr.Lambda b) ≡ suc (total (node_weight parameter_weight) xs.items + expr_weight x.node)
-  Lambda_weight_of b x xs ex exs = Lambda_weight b ∙ ap (λ z. suc (total (node_weight parameter_weight) b.params.items + expr_weight z.node)) ex ∙ ap (λ z. suc (total (node_weight parameter_weight) z.items + expr_weight x.node)) exs
-
-  pub ListComprehension_view_of : (b : Box (Spanned (ExprP P L I A D T)) Global) (first : Box (ForClauseP P L I A D T) Global) (rest : Vec (ClauseP P L I A D T) Global) (x : Spanned (ExprP P L I A D T)) (y : ForClauseP P L I A D T) (ys : Vec (ClauseP P L I A D T) Global) → b.value ≡ x → first.value ≡ y → rest ≡ ys → expr_view (expr.ListComprehension b first rest) ≡ tree.comprehension (tree.item (expr_view x.node x.span)) (clauses_of (for_clause_view y) (map clause_view ys.items))
-  ListComprehension_view_of b first rest x y ys ex ey eys = ListComprehension_view b first rest ∙ ap (λ z. tree.comprehension (tree.item (expr_view z.node z.span)) (clauses_of (for_clause_view first.value) (map clause_view rest.items))) ex ∙ ap (λ z. tree.comprehension (tree.item (expr_view x.node x.span)) (clauses_of (for_clause_view z) (map clause_view rest.items))) ey ∙ ap (λ z. tree.comprehension (tree.item (expr_view x.node x.span)) (clauses_of (for_clause_view y) (map clause_view z.items))) eys
-
-  pub ListComprehension_payloads_of : (b : Box (Spanned (ExprP P L I A D T)) Global) (first : Box (ForClauseP P L I A D T) Global) (rest : Vec (ClauseP P L I A D T) Global) (x : Spanned (ExprP P L I A D T)) (y : ForClauseP P L I A D T) (ys : Vec (ClauseP P L I A D T) Global) → b.value ≡ x → first.value ≡ y → rest ≡ ys → expr_payloads (expr.ListComprehension b first rest) ≡ expr_payloads x.node ++ (for_clause_payloads y ++ flat_map clause_payloads ys.items)
-  ListComprehension_payloads_of b first rest x y ys ex ey eys = ListComprehension_payloads b first rest ∙ ap (λ z. expr_payloads z.node ++ (for_clause_payloads first.value ++ flat_map clause_payloads rest.items)) ex ∙ ap (λ z. expr_payloads x.node ++ (for_clause_payloads z ++ flat_map clause_payloads rest.items)) ey ∙ ap (λ z. expr_payloads x.node ++ (for_clause_payloads y ++ flat_map clause_payloads z.items)) eys
-
-  pub ListComprehension_weight_of : (b : Box (Spanned (ExprP P L I A D T)) Global) (first : Box (ForClauseP P L I A D T) Global) (rest : Vec (ClauseP P L I A D T) Global) (x : Spanned (ExprP P L I A D T)) (y : ForClauseP P L I A D T) (ys : Vec (ClauseP P L I A D T) Global) → b.value ≡ x → first.value ≡ y → rest ≡ ys → expr_weight (expr.ListComprehension b first rest) ≡ suc (expr_weight x.node + (for_clause_weight y + total clause_weight ys.items))
-  ListComprehension_weight_of b first rest x y ys ex ey eys = ListComprehension_weight b first rest ∙ ap (λ z. suc (expr_weight z.node + (for_clause_weight first.value + total clause_weight rest.items))) ex ∙ ap (λ z. suc (expr_weight x.node + (for_clause_weight z + total clause_weight rest.items))) ey ∙ ap (λ z. suc (expr_weight x.node + (for_clause_weight y + total clause_weight z.items))) eys
-
-  pub DictComprehension_view_of : (b : Box (Spanned (ExprP P L I A D T) × Spanned (ExprP P L I A D T)) Global) (first : Box (ForClauseP P L I A D T) Global) (rest : Vec (ClauseP P L I A D T) Global) (x : Spanned (ExprP P L I A D T) × Spanned (ExprP P L I A D T)) (y : ForClauseP P L I A D T) (ys : Vec (ClauseP P L I A D T) Global) → b.value ≡ x → first.value ≡ y → rest ≡ ys → expr_view (expr.DictComprehension b first rest) ≡ tree.comprehension (tree.pair (expr_view x.0.node x.0.span) (expr_view x.1.node x.1.span)) (clauses_of (for_clause_view y) (map clause_view ys.items))
-  DictComprehension_view_of b first rest x y ys ex ey eys = DictComprehension_view b first rest ∙ ap (λ z. tree.comprehension (tree.pair (expr_view z.0.node z.0.span) (expr_view z.1.node z.1.span)) (clauses_of (for_clause_view first.value) (map clause_view rest.items))) ex ∙ ap (λ z. tree.comprehension (tree.pair (expr_view x.0.node x.0.span) (expr_view x.1.node x.1.span)) (clauses_of (for_clause_view z) (map clause_view rest.items))) ey ∙ ap (λ z. tree.comprehension (tree.pair (expr_view x.0.node x.0.span) (expr_view x.1.node x.1.span)) (clauses_of (for_clause_view y) (map clause_view z.items))) eys
-
-  pub DictComprehension_payloads_of : (b : Box (Spanned (ExprP P L I A D T) × Spanned (ExprP P L I A D T)) Global) (first : Box (ForClauseP P L I A D T) Global) (rest : Vec (ClauseP P L I A D T) Global) (x : Spanned (ExprP P L I A D T) × Spanned (ExprP P L I A D T)) (y : ForClauseP P L I A D T) (ys : Vec (ClauseP P L I A D T) Global) → b.value ≡ x → first.value ≡ y → rest ≡ ys → expr_payloads (expr.DictComprehension b first rest) ≡ both_of expr_payloads x ++ (for_clause_payloads y ++ flat_map clause_payloads ys.items)
-  DictComprehension_payloads_of b first rest x y ys ex ey eys = DictComprehension_payloads b first rest ∙ ap (λ z. both_of expr_payloads z ++ (for_clause_payloads first.value ++ flat_map clause_payloads rest.items)) ex ∙ ap (λ z. both_of expr_payloads x ++ (for_clause_payloads z ++ flat_map clause_payloads rest.items)) ey ∙ ap (λ z. both_of expr_payloads x ++ (for_clause_payloads y ++ flat_map clause_payloads z.items)) eys
-
-  pub DictComprehension_weight_of : (b : Box (Spanned (ExprP P L I A D T) × Spanned (ExprP P L I A D T)) Global) (first : Box (ForClauseP P L I A D T) Global) (rest : Vec (ClauseP P L I A D T) Global) (x : Spanned (ExprP P L I A D T) × Spanned (ExprP P L I A D T)) (y : ForClauseP P L I A D T) (ys : Vec (ClauseP P L I A D T) Global) → b.value ≡ x → first.value ≡ y → rest ≡ ys → expr_weight (expr.DictComprehension b first rest) ≡ suc (both_weight expr_weight x + (for_clause_weight y + total clause_weight ys.items))
-  DictComprehension_weight_of b first rest x y ys ex ey eys = DictComprehension_weight b first rest ∙ ap (λ z. suc (both_weight expr_weight z + (for_clause_weight first.value + total clause_weight rest.items))) ex ∙ ap (λ z. suc (both_weight expr_weight x + (for_clause_weight z + total clause_weight rest.items))) ey ∙ ap (λ z. suc (both_weight expr_weight x + (for_clause_weight y + total clause_weight z.items))) eys
-
-  pub Slice_view_of : (o : Box (Spanned (ExprP P L I A D T)) Global) (a : Option (Box (Spanned (ExprP P L I A D T)) Global)) (b : Option (Box (Spanned (ExprP P L I A D T)) Global)) (c : Option (Box (Spanned (ExprP P L I A D T)) Global)) (x : Spanned (ExprP P L I A D T)) (p : Option (Spanned (ExprP P L I A D T))) (q : Option (Spanned (ExprP P L I A D T))) (r : Option (Spanned (ExprP P L I A D T))) → o.value ≡ x → (unboxed a) ≡ p → (unboxed b) ≡ q → (unboxed c) ≡ r → expr_view (expr.Slice o a b c) ≡ tree.index (expr_view x.node x.span) (tree.slice (bound_of (option_map (λ y. expr_view y.node y.span) p)) (bound_of (option_map (λ y. expr_view y.node y.span) q)) (bound_of (option_map (λ y. expr_view y.node y.span) r)))
-  Slice_view_of o a b c x p q r ex ep eq er = Slice_view o a b c ∙ ap (λ z. tree.index (expr_view z.node z.span) (tree.slice (bound_of (option_map (λ y. expr_view y.node y.span) (unboxed a))) (bound_of (option_map (λ y. expr_view y.node y.span) (unboxed b))) (bound_of (option_map (λ y. expr_view y.node y.span) (unboxed c))))) ex ∙ ap (λ z. tree.index (expr_view x.node x.span) (tree.slice (bound_of (option_map (λ y. expr_view y.node y.span) z)) (bound_of (option_map (λ y. expr_view y.node y.span) (unboxed b))) (bound_of (option_map (λ y. expr_view y.node y.span) (unboxed c))))) ep ∙ ap (λ z. tree.index (expr_view x.node x.span) (tree.slice (bound_of (option_map (λ y. expr_view y.node y.span) p)) (bound_of (option_map (λ y. expr_view y.node y.span) z)) (bound_of (option_map (λ y. expr_view y.node y.span) (unboxed c))))) eq ∙ ap (λ z. tree.index (expr_view x.node x.span) (tree.slice (bound_of (option_map (λ y. expr_view y.node y.span) p)) (bound_of (option_map (λ y. expr_view y.node y.span) q)) (bound_of (option_map (λ y. expr_view y.node y.span) z)))) er
-
-  pub Slice_payloads_of : (o : Box (Spanned (ExprP P L I A D T)) Global) (a : Option (Box (Spanned (ExprP P L I A D T)) Global)) (b : Option (Box (Spanned (ExprP P L I A D T)) Global)) (c : Option (Box (Spanned (ExprP P L I A D T)) Global)) (x : Spanned (ExprP P L I A D T)) (p : Option (Spanned (ExprP P L I A D T))) (q : Option (Spanned (ExprP P L I A D T))) (r : Option (Spanned (ExprP P L I A D T))) → o.value ≡ x → (unboxed a) ≡ p → (unboxed b) ≡ q → (unboxed c) ≡ r → expr_payloads (expr.Slice o a b c) ≡ expr_payloads x.node ++ (maybe_of expr_payloads p ++ (maybe_of expr_payloads q ++ maybe_of expr_payloads r))
-  Slice_payloads_of o a b c x p q r ex ep eq er = Slice_payloads o a b c ∙ ap (λ z. expr_payloads z.node ++ (maybe_of expr_payloads (unboxed a) ++ (maybe_of expr_payloads (unboxed b) ++ maybe_of expr_payloads (unboxed c)))) ex ∙ ap (λ z. expr_payloads x.node ++ (maybe_of expr_payloads z ++ (maybe_of expr_payloads (unboxed b) ++ maybe_of expr_payloads (unboxed c)))) ep ∙ ap (λ z. expr_payloads x.node ++ (maybe_of expr_payloads p ++ (maybe_of expr_payloads z ++ maybe_of expr_payloads (unboxed c)))) eq ∙ ap (λ z. expr_payloads x.node ++ (maybe_of expr_payloads p ++ (maybe_of expr_payloads q ++ maybe_of expr_payloads z))) er
-
-  pub Slice_weight_of : (o : Box (Spanned (ExprP P L I A D T)) Global) (a : Option (Box (Spanned (ExprP P L I A D T)) Global)) (b : Option (Box (Spanned (ExprP P L I A D T)) Global)) (c : Option (Box (Spanned (ExprP P L I A D T)) Global)) (x : Spanned (ExprP P L I A D T)) (p : Option (Spanned (ExprP P L I A D T))) (q : Option (Spanned (ExprP P L I A D T))) (r : Option (Spanned (ExprP P L I A D T))) → o.value ≡ x → (unboxed a) ≡ p → (unboxed b) ≡ q → (unboxed c) ≡ r → expr_weight (expr.Slice o a b c) ≡ suc (expr_weight x.node + (maybe_weight expr_weight p + (maybe_weight expr_weight q + maybe_weight expr_weight r)))
-  Slice_weight_of o a b c x p q r ex ep eq er = Slice_weight o a b c ∙ ap (λ z. suc (expr_weight z.node + (maybe_weight expr_weight (unboxed a) + (maybe_weight expr_weight (unboxed b) + maybe_weight expr_weight (unboxed c))))) ex ∙ ap (λ z. suc (expr_weight x.node + (maybe_weight expr_weight z + (maybe_weight expr_weight (unboxed b) + maybe_weight expr_weight (unboxed c))))) ep ∙ ap (λ z. suc (expr_weight x.node + (maybe_weight expr_weight p + (maybe_weight expr_weight z + maybe_weight expr_weight (unboxed c))))) eq ∙ ap (λ z. suc (expr_weight x.node + (maybe_weight expr_weight p + (maybe_weight expr_weight q + maybe_weight expr_weight z)))) er
-
-  pub Normal_view_of : (n : Spanned (AssignIdentP P L I A D T)) (a : Option (Box (Spanned (TypeExprP P L I A D T)) Global)) (b : Option (Box (Spanned (ExprP P L I A D T)) Global)) (x : Spanned (AssignIdentP P L I A D T)) (p : Option (Spanned (TypeExprP P L I A D T))) (q : Option (Spanned (ExprP P L I A D T))) → n ≡ x → (unboxed a) ≡ p → (unboxed b) ≡ q → parameter_view (param.Normal n a b) ≡ parameter_of tree.plain x (annotation_of (option_map (λ y. type_view y.node y.span) p)) (bound_of (option_map (λ y. expr_view y.node y.span) q))
-  Normal_view_of n a b x p q ex ep eq = Normal_view n a b ∙ ap (λ z. parameter_of tree.plain z (annotation_of (option_map (λ y. type_view y.node y.span) (unboxed a))) (bound_of (option_map (λ y. expr_view y.node y.span) (unboxed b)))) ex ∙ ap (λ z. parameter_of tree.plain x (annotation_of (option_map (λ y. type_view y.node y.span) z)) (bound_of (option_map (λ y. expr_view y.node y.span) (unboxed b)))) ep ∙ ap (λ z. parameter_of tree.plain x (annotation_of (option_map (λ y. type_view y.node y.span) p)) (bound_of (option_map (λ y. expr_view y.node y.span) z))) eq
-
-  pub Normal_payloads_of : (n : Spanned (AssignIdentP P L I A D T)) (a : Option (Box (Spanned (TypeExprP P L I A D T)) Global)) (b : Option (Box (Spanned (ExprP P L I A D T)) Global)) (x : Spanned (AssignIdentP P L I A D T)) (p : Option (Spanned (TypeExprP P L I A D T))) (q : Option (Spanned (ExprP P L I A D T))) → n ≡ x → (unboxed a) ≡ p → (unboxed b) ≡ q → parameter_payloads (param.Normal n a b) ≡ assigned_payloads x.node ++ (maybe_of type_payloads p ++ maybe_of expr_payloads q)
-  Normal_payloads_of n a b x p q ex ep eq = Normal_payloads n a b ∙ ap (λ z. assigned_payloads z.node ++ (maybe_of type_payloads (unboxed a) ++ maybe_of expr_payloads (unboxed b))) ex ∙ ap (λ z. assigned_payloads x.node ++ (maybe_of type_payloads z ++ maybe_of expr_payloads (unboxed b))) ep ∙ ap (λ z. assigned_payloads x.node ++ (maybe_of type_payloads p ++ maybe_of expr_payloads z)) eq
-
-  pub Normal_weight_of : (n : Spanned (AssignIdentP P L I A D T)) (a : Option (Box (Spanned (TypeExprP P L I A D T)) Global)) (b : Option (Box (Spanned (ExprP P L I A D T)) Global)) (p : Option (Spanned (TypeExprP P L I A D T))) (q : Option (Spanned (ExprP P L I A D T))) → (unboxed a) ≡ p → (unboxed b) ≡ q → parameter_weight (param.Normal n a b) ≡ suc (maybe_weight type_weight p + maybe_weight expr_weight q)
-  Normal_weight_of n a b p q ep eq = Normal_weight n a b ∙ ap (λ z. suc (maybe_weight type_weight z + maybe_weight expr_weight (unboxed b))) ep ∙ ap (λ z. suc (maybe_weight type_weight p + maybe_weight expr_weight z)) eq
-
-  pub Args_view_of : (n : Spanned (AssignIdentP P L I A D T)) (a : Option (Box (Spanned (TypeExprP P L I A D T)) Global)) (x : Spanned (AssignIdentP P L I A D T)) (p : Option (Spanned (TypeExprP P L I A D T))) → n ≡ x → (unboxed a) ≡ p → parameter_view (param.Args n a) ≡ parameter_of (stars_of starred.Args) x (annotation_of (option_map (λ y. type_view y.node y.span) p)) tree.absent
-  Args_view_of n a x p ex ep = Args_view n a ∙ ap (λ z. parameter_of (stars_of starred.Args) z (annotation_of (option_map (λ y. type_view y.node y.span) (unboxed a))) tree.absent) ex ∙ ap (λ z. parameter_of (stars_of starred.Args) x (annotation_of (option_map (λ y. type_view y.node y.span) z)) tree.absent) ep
-
-  pub Args_payloads_of : (n : Spanned (AssignIdentP P L I A D T)) (a : Option (Box (Spanned (TypeExprP P L I A D T)) Global)) (x : Spanned (AssignIdentP P L I A D T)) (p : Option (Spanned (TypeExprP P L I A D T))) → n ≡ x → (unboxed a) ≡ p → parameter_payloads (param.Args n a) ≡ assigned_payloads x.node ++ maybe_of type_payloads p
-  Args_payloads_of n a x p ex ep = Args_payloads n a ∙ ap (λ z. assigned_payloads z.node ++ maybe_of type_payloads (unboxed a)) ex ∙ ap (λ z. assigned_payloads x.node ++ maybe_of type_payloads z) ep
-
-  pub Args_weight_of : (n : Spanned (AssignIdentP P L I A D T)) (a : Option (Box (Spanned (TypeExprP P L I A D T)) Global)) (p : Option (Spanned (TypeExprP P L I A D T))) → (unboxed a) ≡ p → parameter_weight (param.Args n a) ≡ suc (maybe_weight type_weight p)
-  Args_weight_of n a p ep = Args_weight n a ∙ ap (λ z. suc (maybe_weight type_weight z)) ep
-
-  pub KwArgs_view_of : (n : Spanned (AssignIdentP P L I A D T)) (a : Option (Box (Spanned (TypeExprP P L I A D T)) Global)) (x : Spanned (AssignIdentP P L I A D T)) (p : Option (Spanned (TypeExprP P L I A D T))) → n ≡ x → (unboxed a) ≡ p → parameter_view (param.KwArgs n a) ≡ parameter_of (stars_of starred.KwArgs) x (annotation_of (option_map (λ y. type_view y.node y.span) p)) tree.absent
-  KwArgs_view_of n a x p ex ep = KwArgs_view n a ∙ ap (λ z. parameter_of (stars_of starred.KwArgs) z (annotation_of (option_map (λ y. type_view y.node y.span) (unboxed a))) tree.absent) ex ∙ ap (λ z. parameter_of (stars_of starred.KwArgs) x (annotation_of (option_map (λ y. type_view y.node y.span) z)) tree.absent) ep
-
-  pub KwArgs_payloads_of : (n : Spanned (AssignIdentP P L I A D T)) (a : Option (Box (Spanned (TypeExprP P L I A D T)) Global)) (x : Spanned (AssignIdentP P L I A D T)) (p : Option (Spanned (TypeExprP P L I A D T))) → n ≡ x → (unboxed a) ≡ p → parameter_payloads (param.KwArgs n a) ≡ assigned_payloads x.node ++ maybe_of type_payloads p
-  KwArgs_payloads_of n a x p ex ep = KwArgs_payloads n a ∙ ap (λ z. assigned_payloads z.node ++ maybe_of type_payloads (unboxed a)) ex ∙ ap (λ z. assigned_payloads x.node ++ maybe_of type_payloads z) ep
-
-  pub KwArgs_weight_of : (n : Spanned (AssignIdentP P L I A D T)) (a : Option (Box (Spanned (TypeExprP P L I A D T)) Global)) (p : Option (Spanned (TypeExprP P L I A D T))) → (unboxed a) ≡ p → parameter_weight (param.KwArgs n a) ≡ suc (maybe_weight type_weight p)
-  KwArgs_weight_of n a p ep = KwArgs_weight n a ∙ ap (λ z. suc (maybe_weight type_weight z)) ep

@@ -1,11 +1,13 @@
 -- Maps of nodes, one of their parts behind another.
-use Rattle.std.proofs.Common.{◌≡◌, refl, sym, ap, ◌∙◌, subst, List, [], ◌∷◌, ◌++◌, Result, Ok, Err, IfOk}
+use Rattle.std.proofs.Common.{◌≡◌, refl, sym, ap, ◌∙◌, List, [], ◌∷◌, ◌++◌, Result, Ok, Err, IfOk}
 use Rattle.std.specs.Result.{IsErrAnd}
 use Rattle.starlark_place.specs.Place.{Extent}
 use Rattle.starlark_ast.specs.Tree.{Annotation, Bound, Expr, Member, Name, Stars}
 use Rattle.starlark_ast.specs.Tree as tree
-use Rattle.starlark_payload.specs.Payloads.{Answers, Begins}
-use Rattle.starlark_payload.specs.Mapped.{Mapped, Maps}
+use Rattle.starlark_payload.specs.Payloads.{Begins}
+use Rattle.std.specs.declared.alloc.Global.{Global}
+use Rattle.std.specs.declared.boxed.Box.{Box}
+use Rattle.starlark_payload.specs.Mapped.{Mapped, Maps, held}
 use Rattle.starlark_payload.proofs.Answering.{answers_append, answers_at, answers_none, answers_one, begins_all, begins_at, begins_more, begins_within}
 
 beside : (V W : Type 0) (a b : V) (c d : W) → b ≡ a → d ≡ c → ◌≡◌ {A = V × W} (b, d) (a, c)
@@ -34,10 +36,14 @@ module _ {S X Y : Type 0} {R : S → X → Y → S → Type 0} where
   pub made : {V W Z : Type 0} {s t : S} {xs zs : List X} {ys : List Y} {a b : V} {v : W} (w : Z → W) (p : Z → List Y) (z : Z) (h : V → W) → Mapped R s zs a t ys b → v ≡ h a → xs ≡ zs → w z ≡ h b → p z ≡ ys → Mapped R s xs v t (p z) (w z)
   made w p z h m e d f g = record { kept = f ∙ (ap h m.kept ∙ sym e); called = answers_at R d g m.called }
 
-  -- the same where memory may run out behind all calls
-  pub made_maybe : {V W Z E : Type 0} {s t : S} {xs zs : List X} {ys : List Y} {a b : V} {v : W} (w : Z → W) (p : Z → List Y) (r : Result Z E) (h : V → W) → Mapped R s zs a t ys b → v ≡ h a → xs ≡ zs → IfOk r (λ z. w z ≡ h b) → IfOk r (λ z. p z ≡ ys) → Maps R s xs v t p w r
-  made_maybe w p (Ok z) h m e d f g = made w p z h m e d f g
-  made_maybe w p (Err _) h m e d f g = begins_at R d (begins_all R m.called)
+  -- what is made of a part stands in a box
+  pub made_held : {V Z E : Type 0} {s t : S} {xs : List X} {v : V} (w : Z → V) (p : Z → List Y) (z : Z) (r : Result (Box Z Global) E) → Mapped R s xs v t (p z) (w z) → IfOk r (λ b. b.value ≡ z) → Maps R s xs v t (held p) (held w) r
+  made_held w p z (Ok b) m e = record { kept = ap w e ∙ m.kept; called = answers_at R refl (ap p e) m.called }
+  made_held w p z (Err _) m e = begins_all R m.called
+
+  -- a part that was taken out of its box
+  pub taken : {V N : Type 0} {s t : S} {ys : List Y} {w : V} (h : N → List X) (v : N → V) (a b : N) → b ≡ a → Mapped R s (h b) (v b) t ys w → Mapped R s (h a) (v a) t ys w
+  taken h v a b e m = record { kept = m.kept ∙ ap v e; called = answers_at R (ap h (sym e)) refl m.called }
 
   -- memory runs out in the first part
   pub stops : {s t : S} {xs zs : List X} → xs ≡ zs → Begins R s zs t → Begins R s xs t
@@ -49,10 +55,6 @@ module _ {S X Y : Type 0} {R : S → X → Y → S → Type 0} where
   -- memory runs out in a part behind another
   pub stops_behind : {V : Type 0} {s t u : S} {xs zs : List X} {ys : List Y} {a b : V} → Mapped R s xs a t ys b → Begins R t zs u → Begins R s (xs ++ zs) u
   stops_behind m b = begins_more R m.called b
-
-  -- memory runs out behind all calls
-  pub stops_late : {V : Type 0} {s t : S} {xs : List X} {ys : List Y} {a b : V} → Mapped R s xs a t ys b → Begins R s xs t
-  stops_late m = begins_all R m.called
 
   -- a payload of its own behind the parts
   pub behind : {V : Type 0} {s t u : S} {xs : List X} {ys : List Y} {a b : V} (x : X) (y : Y) → Mapped R s xs a t ys b → R t x y u → Mapped R s (xs ++ x ∷ []) a u (ys ++ y ∷ []) b

@@ -1,12 +1,11 @@
 -- The statements of trees: their plain data, their payloads and their weights.
-use Rattle.std.proofs.Common.{◌≡◌, refl, sym, ap, ◌∙◌, List, [], ◌∷◌, ◌++◌, ℕ, suc, ◌+◌, map, fold, flat_map, Option, Some, None}
+use Rattle.std.proofs.Common.{◌≡◌, refl, sym, ap, ◌∙◌, List, [], ◌∷◌, ◌++◌, suc, ◌+◌, map, Option, Some, None}
 use Rattle.std.proofs.lemmas.List.Folds.{flat_map-map}
 use mathlib.Core.Path.{fun_ext}
 use Rattle.std.specs.Option.{option_map}
 use Rattle.std.specs.declared.alloc.Global.{Global}
 use Rattle.std.specs.declared.boxed.Box.{Box}
 use Rattle.std.specs.declared.vec.Vec.{Vec}
-use Rattle.starlark_place.specs.Place.{Extent}
 use Rattle.starlark_place.specs.declared.pos.Spanned.{Spanned}
 use Rattle.starlark_ast.specs.Tree as tree
 use Rattle.starlark_ast.specs.View.{assign_view, boxed_type, def_view, expr_view, for_view, ident_at, load_view, maybe_expr, maybe_type, members, parameter_at, parameter_view, stmt_view, target_view, type_view}
@@ -29,12 +28,19 @@ use Rattle.starlark_payload.specs.Around.{annotation_of, same_member}
 use Rattle.starlark_payload.specs.StatementsAround.{plain_view, sequence_of}
 use Rattle.starlark_payload.specs.Mapped.{seen}
 use Rattle.starlark_payload.specs.declared.statement_nodes.Plain.TheVariants as plain
-use Rattle.starlark_payload.specs.Payloads.{OfDef, all_of, assign_payloads, assigned_payloads, def_payloads, def_step, expr_payloads, for_payloads, for_step, found, load_payloads, maybe_boxed, maybe_expr_payloads, maybe_of, maybe_type_payloads, parameter_payloads, stmt_payloads, stmt_step, target_payloads, type_payloads}
+use Rattle.starlark_payload.specs.Payloads.{OfDef, all_of, assign_payloads, assigned_payloads, def_payloads, def_step, expr_payloads, for_payloads, for_step, load_payloads, maybe_boxed, maybe_expr_payloads, maybe_of, maybe_type_payloads, parameter_payloads, stmt_payloads, stmt_step, target_payloads, type_payloads}
 use Rattle.starlark_payload.specs.StatementWeights.{def_weight, def_weights, for_weight, for_weights, stmt_weight, stmt_weights}
 use Rattle.starlark_payload.specs.Weights.{known, node_weight, total, unboxed}
 use Rattle.starlark_payload.proofs.Opening.{total-map}
 
 module _ {P L I A D T : Type 0} where
+  -- the parts together
+  abbrev pub for_of : Spanned (AssignTargetP P L I A D T) → Spanned (ExprP P L I A D T) → Box (Spanned (StmtP P L I A D T)) Global → ForP P L I A D T
+  for_of x y b = record { var = x; over = y; body = b }
+
+  abbrev pub def_of : Spanned (AssignIdentP P L I A D T) → Vec (Spanned (ParameterP P L I A D T)) Global → Option (Box (Spanned (TypeExprP P L I A D T)) Global) → Box (Spanned (StmtP P L I A D T)) Global → D → DefP P L I A D T
+  def_of n ps t b o = record { name = n; params = ps; return_type = t; body = b; payload = o }
+
   value_is : (x : Option (Spanned (ExprP P L I A D T))) → maybe_expr x ≡ option_map (seen expr_view) x
   value_is None = refl
   value_is (Some x) = refl
@@ -165,19 +171,6 @@ module _ {P L I A D T : Type 0} where
 
   pub def_weight_of : (x : DefP P L I A D T) (v : Spanned (StmtP P L I A D T)) → x.body.value ≡ v → def_weight x ≡ suc (stmt_weight v.node)
   def_weight_of x v e = fold_out-DefP P L I A D T _ _ _ stmt_weights def_weights for_weights x ∙ ap (λ q. suc (stmt_weight q.node)) e
-
-  pub def_view_made : (x : DefP P L I A D T) (n : Spanned (AssignIdentP P L I A D T)) (ps : Vec (Spanned (ParameterP P L I A D T)) Global) (t : Option (Spanned (TypeExprP P L I A D T))) (v : Spanned (StmtP P L I A D T)) → x.body.value ≡ v → unboxed x.return_type ≡ t → x.name ≡ n → x.params ≡ ps → def_view x ≡ tree.define (ident_at n) (members same_member (map (seen parameter_view) ps.items)) (annotation_of (option_map (seen type_view) t)) (seen stmt_view v)
-  def_view_made x n ps t v e d en eps =
-      def_view_of x t v d e
-      ∙ ap (λ q. tree.define (ident_at q) (members same_member (map (seen parameter_view) x.params.items)) (annotation_of (option_map (seen type_view) t)) (seen stmt_view v)) en
-      ∙ ap (λ q. tree.define (ident_at n) (members same_member (map (seen parameter_view) q.items)) (annotation_of (option_map (seen type_view) t)) (seen stmt_view v)) eps
-
-  pub def_payloads_made : (x : DefP P L I A D T) (n : Spanned (AssignIdentP P L I A D T)) (ps : Vec (Spanned (ParameterP P L I A D T)) Global) (t : Option (Spanned (TypeExprP P L I A D T))) (v : Spanned (StmtP P L I A D T)) (o : D) → x.body.value ≡ v → unboxed x.return_type ≡ t → x.name ≡ n → x.params ≡ ps → x.payload ≡ o → def_payloads x ≡ assigned_payloads n.node ++ (all_of parameter_payloads ps.items ++ (maybe_of type_payloads t ++ (stmt_payloads v.node ++ OfDef o ∷ [])))
-  def_payloads_made x n ps t v o e d en eps eo =
-      def_payloads_of x t v d e
-      ∙ ap (λ q. assigned_payloads q.node ++ (all_of parameter_payloads x.params.items ++ (maybe_of type_payloads t ++ (stmt_payloads v.node ++ OfDef x.payload ∷ [])))) en
-      ∙ ap (λ q. assigned_payloads n.node ++ (all_of parameter_payloads q.items ++ (maybe_of type_payloads t ++ (stmt_payloads v.node ++ OfDef x.payload ∷ [])))) eps
-      ∙ ap (λ q. assigned_payloads n.node ++ (all_of parameter_payloads ps.items ++ (maybe_of type_payloads t ++ (stmt_payloads v.node ++ OfDef q ∷ [])))) eo
 
   pub assign_view_is : (x : AssignP P L I A D T) → assign_view x ≡ tree.assign (seen target_view x.lhs) (annotation_of (option_map (seen type_view) x.ty)) None (seen expr_view x.rhs)
   assign_view_is x = fun_ext (λ s. ap (λ q. tree.assign (seen target_view x.lhs) q None (seen expr_view x.rhs) s) (left_type_is x.ty))

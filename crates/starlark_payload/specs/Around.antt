@@ -7,8 +7,6 @@ use Rattle.starlark_ast.specs.Tree as tree
 use Rattle.starlark_ast.specs.View.{members}
 use Rattle.starlark_payload.specs.declared.nodes.AroundOne.{AroundOne}
 use Rattle.starlark_payload.specs.declared.nodes.AroundOne.TheVariants as one
-use Rattle.starlark_payload.specs.declared.nodes.AroundTwo.{AroundTwo}
-use Rattle.starlark_payload.specs.declared.nodes.AroundTwo.TheVariants as two
 use Rattle.starlark_payload.specs.declared.nodes.AroundThree.{AroundThree}
 use Rattle.starlark_payload.specs.declared.nodes.AroundThree.TheVariants as three
 use Rattle.starlark_payload.specs.declared.nodes.AroundMany.{AroundMany}
@@ -28,15 +26,14 @@ one_view one.Minus x s = tree.signed tree.Minus x s
 one_view one.Plus x s = tree.signed tree.Plus x s
 one_view one.BitNot x s = tree.signed tree.BitNot x s
 
--- two
-abbrev pub two_view : AroundTwo → Expr → Expr → Extent → Expr
-two_view two.Index x y s = tree.index x (tree.single y) s
-two_view (two.Op op) x y s = tree.operation x op y s
+-- one behind the other in brackets
+abbrev pub index_of : Expr × Expr → Extent → Expr
+index_of x s = tree.index x.0 (tree.single x.1) s
 
 -- three
-abbrev pub three_view : AroundThree → Expr → Expr → Expr → Extent → Expr
-three_view three.Index2 x y z s = tree.index x (tree.double y z) s
-three_view three.If x y z s = tree.choice x y z s
+abbrev pub three_view : AroundThree → Expr × Expr × Expr → Extent → Expr
+three_view three.Index2 x s = tree.index x.0 (tree.double x.1 x.2) s
+three_view three.If x s = tree.choice x.0 x.1 x.2 s
 
 -- as many as there are
 abbrev pub many_view : AroundMany → List Expr → Extent → Expr
@@ -79,6 +76,10 @@ both_view x = tree.pair x.0 x.1
 abbrev pub same_member : Member → Member
 same_member m = m
 
--- a key and its value
+-- two, each at its place
 abbrev pub both_at : {X : Type 0} → (X → Extent → Expr) → Spanned X × Spanned X → Expr × Expr
 both_at v x = (v x.0.node x.0.span, v x.1.node x.1.span)
+
+-- three, each at its place
+abbrev pub three_at : {X : Type 0} → (X → Extent → Expr) → Spanned X × Spanned X × Spanned X → Expr × Expr × Expr
+three_at v x = (v x.0.node x.0.span, v x.1.node x.1.span, v x.2.node x.2.span)

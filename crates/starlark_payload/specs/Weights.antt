@@ -34,6 +34,9 @@ node_weight w x = w x.node
 abbrev pub both_weight : {X : Type 0} → (X → ℕ) → Spanned X × Spanned X → ℕ
 both_weight w x = w x.0.node + w x.1.node
 
+abbrev pub three_weight : {X : Type 0} → (X → ℕ) → Spanned X × Spanned X × Spanned X → ℕ
+three_weight w x = w x.0.node + (w x.1.node + w x.2.node)
+
 abbrev pub maybe_weight : {X : Type 0} → (X → ℕ) → Option (Spanned X) → ℕ
 maybe_weight w None = 0
 maybe_weight w (Some x) = w x.node
@@ -55,7 +58,7 @@ module _ {P L I A D T : Type 0} where
   expr_shape_layer (layer.ExprP::Tuple xs) = shape.Many
   expr_shape_layer (layer.ExprP::Dot x name) = shape.One
   expr_shape_layer (layer.Call x args) = shape.Call
-  expr_shape_layer (layer.ExprP::Index x) = shape.Two
+  expr_shape_layer (layer.ExprP::Index x) = shape.Index
   expr_shape_layer (layer.Index2 x) = shape.Three
   expr_shape_layer (layer.Slice x a b c) = shape.Slice
   expr_shape_layer (layer.ExprP::Identifier x) = shape.Name
@@ -65,7 +68,7 @@ module _ {P L I A D T : Type 0} where
   expr_shape_layer (layer.Minus x) = shape.One
   expr_shape_layer (layer.Plus x) = shape.One
   expr_shape_layer (layer.BitNot x) = shape.One
-  expr_shape_layer (layer.Op x op y) = shape.Two
+  expr_shape_layer (layer.Op x op y) = shape.Operation
   expr_shape_layer (layer.ExprP::If x) = shape.Three
   expr_shape_layer (layer.List xs) = shape.Many
   expr_shape_layer (layer.Dict xs) = shape.Dict
@@ -123,8 +126,8 @@ module _ {P L I A D T : Type 0} where
   expr_weights (layer.ExprP::Tuple xs) = suc (total (node_weight known) xs.items)
   expr_weights (layer.ExprP::Dot x name) = suc x.value.node
   expr_weights (layer.Call x args) = suc (x.value.node + args)
-  expr_weights (layer.ExprP::Index x) = suc (x.value.0.node + x.value.1.node)
-  expr_weights (layer.Index2 x) = suc (x.value.0.node + (x.value.1.node + x.value.2.node))
+  expr_weights (layer.ExprP::Index x) = suc (both_weight known x.value)
+  expr_weights (layer.Index2 x) = suc (three_weight known x.value)
   expr_weights (layer.Slice x a b c) = suc (x.value.node + (boxed_weight known a + (boxed_weight known b + boxed_weight known c)))
   expr_weights (layer.ExprP::Identifier x) = 0
   expr_weights (layer.Lambda x) = x
@@ -134,7 +137,7 @@ module _ {P L I A D T : Type 0} where
   expr_weights (layer.Plus x) = suc x.value.node
   expr_weights (layer.BitNot x) = suc x.value.node
   expr_weights (layer.Op x op y) = suc (x.value.node + y.value.node)
-  expr_weights (layer.ExprP::If x) = suc (x.value.0.node + (x.value.1.node + x.value.2.node))
+  expr_weights (layer.ExprP::If x) = suc (three_weight known x.value)
   expr_weights (layer.List xs) = suc (total (node_weight known) xs.items)
   expr_weights (layer.Dict xs) = suc (total (both_weight known) xs.items)
   expr_weights (layer.ListComprehension x first rest) = suc (x.value.node + (first.value + total known rest.items))

@@ -11,7 +11,7 @@ mod openers;
 pub mod payload_map;
 pub mod placed_maps;
 mod shapes;
-mod statement_makers;
+mod single;
 mod statement_mapping;
 pub mod statement_maps;
 pub mod statement_nodes;

@@ -1,6 +1,6 @@
 //! The forms of nodes, and what stands around their parts.
 
-use starlark_ast::ast::{AstString, BinOp};
+use starlark_ast::ast::AstString;
 use starlark_place::pos::Span;
 
 /// The form of an expression.
@@ -9,7 +9,8 @@ pub enum Shape {
     Literal,
     Name,
     One,
-    Two,
+    Index,
+    Operation,
     Three,
     Slice,
     Many,
@@ -52,13 +53,6 @@ pub enum AroundOne {
     Minus,
     Plus,
     BitNot,
-}
-
-/// What stands around two expressions.
-#[derive(Debug, Drop)]
-pub enum AroundTwo {
-    Index,
-    Op(BinOp),
 }
 
 /// What stands around three expressions.

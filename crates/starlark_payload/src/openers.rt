@@ -4,22 +4,20 @@ ghost use Rattle.std.specs.Prelude.{◌≡◌, ◌++◌, ◌+◌, suc, [], ◌�
 ghost use Rattle.std.specs.Option.{option_map};
 ghost use Rattle.starlark_ast.specs.Tree as tree;
 ghost use Rattle.starlark_ast.specs.View.{argument_view, assigned_view, clause_view, expr_view, for_clause_view, ident_view, literal_view, members, parameter_of, parameter_view, target_view, type_view};
-ghost use Rattle.starlark_payload.specs.Around.{annotation_of, argument_of, both_at, both_view, bound_of, clauses_of, many_view, marker_of, one_view, same_member, stars_of, three_view, two_view};
-ghost use Rattle.starlark_payload.specs.Payloads.{OfDef, OfType, all_of, argument_payloads, assigned_payloads, both_of, clause_payloads, expr_payloads, for_clause_payloads, ident_payloads, maybe_of, parameter_payloads, target_payloads, type_payloads};
-ghost use Rattle.starlark_payload.specs.Weights.{argument_weight, both_weight, clause_shape, clause_weight, expr_shape, expr_weight, for_clause_weight, maybe_weight, node_weight, parameter_shape, parameter_weight, target_shape, target_weight, total, type_weight};
+ghost use Rattle.starlark_payload.specs.Around.{annotation_of, argument_of, both_at, both_view, bound_of, clauses_of, index_of, many_view, marker_of, one_view, same_member, stars_of, three_at, three_view};
+ghost use Rattle.starlark_payload.specs.Mapped.{seen};
+ghost use Rattle.starlark_payload.specs.Payloads.{OfDef, OfType, all_of, argument_payloads, assigned_payloads, both_of, clause_payloads, expr_payloads, for_clause_payloads, ident_payloads, maybe_of, parameter_payloads, target_payloads, three_of, type_payloads};
+ghost use Rattle.starlark_payload.specs.Weights.{argument_weight, both_weight, clause_shape, clause_weight, expr_shape, expr_weight, for_clause_weight, maybe_weight, node_weight, parameter_shape, parameter_weight, target_shape, target_weight, three_weight, total, type_weight, unboxed};
 ghost use Rattle.starlark_payload.specs.declared.nodes.Shape.TheVariants as shape;
 ghost use Rattle.starlark_payload.specs.declared.nodes.TargetShape.TheVariants as target;
 ghost use Rattle.starlark_payload.specs.declared.nodes.ParameterShape.TheVariants as parameter;
 ghost use Rattle.starlark_payload.specs.declared.nodes.ClauseShape.TheVariants as clause;
 
-use crate::boxes::{maybe_opened, opened};
-use crate::nodes::{
-    AroundArgument, AroundMany, AroundOne, AroundThree, AroundTwo, Marker, Starred,
-};
+use crate::nodes::{AroundArgument, AroundMany, AroundOne, AroundThree, Marker, Starred};
 use starlark_ast::ast::{
     ArgumentP, AssignTargetP, AstArgumentP, AstAssignIdentP, AstAssignTargetP, AstExprP, AstIdentP,
-    AstLiteral, AstParameterP, AstPayload, AstString, AstTypeExprP, CallArgsP, ClauseP, ExprP,
-    FStringP, ForClauseP, LambdaP, ParameterP, TypeExprP,
+    AstLiteral, AstParameterP, AstPayload, AstString, AstTypeExprP, BinOp, CallArgsP, ClauseP,
+    ExprP, FStringP, ForClauseP, LambdaP, ParameterP, TypeExprP,
 };
 use starlark_place::pos::Spanned;
 
@@ -43,55 +41,59 @@ pub(crate) fn open_name<P: AstPayload>(x: ExprP<P>) -> AstIdentP<P>
     x
 }
 
-pub(crate) fn open_one<P: AstPayload>(x: ExprP<P>) -> (AroundOne, AstExprP<P>)
+pub(crate) fn open_one<P: AstPayload>(x: ExprP<P>) -> (AroundOne, Box<AstExprP<P>>)
     requires { expr_shape x ≡ shape.One }
-    ensures kept { expr_view x ≡ one_view result.0 (expr_view result.1.node result.1.span) }
-    ensures payloads { expr_payloads x ≡ expr_payloads result.1.node }
-    ensures weight { expr_weight x ≡ suc (expr_weight result.1.node) }
+    ensures kept { expr_view x ≡ one_view result.0 (seen expr_view result.1.value) }
+    ensures payloads { expr_payloads x ≡ expr_payloads result.1.value.node }
+    ensures weight { expr_weight x ≡ suc (expr_weight result.1.value.node) }
 {
     match x {
-        ExprP::Dot(x, name) => (AroundOne::Dot(name), opened(x)),
-        ExprP::Not(x) => (AroundOne::Not, opened(x)),
-        ExprP::Minus(x) => (AroundOne::Minus, opened(x)),
-        ExprP::Plus(x) => (AroundOne::Plus, opened(x)),
-        ExprP::BitNot(x) => (AroundOne::BitNot, opened(x)),
+        ExprP::Dot(x, name) => (AroundOne::Dot(name), x),
+        ExprP::Not(x) => (AroundOne::Not, x),
+        ExprP::Minus(x) => (AroundOne::Minus, x),
+        ExprP::Plus(x) => (AroundOne::Plus, x),
+        ExprP::BitNot(x) => (AroundOne::BitNot, x),
         _ => unreachable!(),
     }
 }
 
-pub(crate) fn open_two<P: AstPayload>(x: ExprP<P>) -> (AroundTwo, AstExprP<P>, AstExprP<P>)
-    requires { expr_shape x ≡ shape.Two }
-    ensures kept { expr_view x ≡ two_view result.0 (expr_view result.1.node result.1.span) (expr_view result.2.node result.2.span) }
-    ensures payloads { expr_payloads x ≡ expr_payloads result.1.node ++ expr_payloads result.2.node }
-    ensures weight { expr_weight x ≡ suc (expr_weight result.1.node + expr_weight result.2.node) }
+pub(crate) fn open_index<P: AstPayload>(x: ExprP<P>) -> Box<(AstExprP<P>, AstExprP<P>)>
+    requires { expr_shape x ≡ shape.Index }
+    ensures kept { expr_view x ≡ index_of (both_at expr_view result.value) }
+    ensures payloads { expr_payloads x ≡ both_of expr_payloads result.value }
+    ensures weight { expr_weight x ≡ suc (both_weight expr_weight result.value) }
 {
-    match x {
-        ExprP::Index(pair) => {
-            let (x, y) = opened(pair);
-            (AroundTwo::Index, x, y)
-        }
-        ExprP::Op(x, op, y) => (AroundTwo::Op(op), opened(x), opened(y)),
-        _ => unreachable!(),
-    }
+    let ExprP::Index(pair) = x else {
+        unreachable!()
+    };
+    pair
+}
+
+pub(crate) fn open_operation<P: AstPayload>(
+    x: ExprP<P>,
+) -> (Box<AstExprP<P>>, BinOp, Box<AstExprP<P>>)
+    requires { expr_shape x ≡ shape.Operation }
+    ensures kept { expr_view x ≡ tree.operation (seen expr_view result.0.value) result.1 (seen expr_view result.2.value) }
+    ensures payloads { expr_payloads x ≡ expr_payloads result.0.value.node ++ expr_payloads result.2.value.node }
+    ensures weight { expr_weight x ≡ suc (expr_weight result.0.value.node + expr_weight result.2.value.node) }
+{
+    let ExprP::Op(x, op, y) = x else {
+        unreachable!()
+    };
+    (x, op, y)
 }
 
 pub(crate) fn open_three<P: AstPayload>(
     x: ExprP<P>,
-) -> (AroundThree, AstExprP<P>, AstExprP<P>, AstExprP<P>)
+) -> (AroundThree, Box<(AstExprP<P>, AstExprP<P>, AstExprP<P>)>)
     requires { expr_shape x ≡ shape.Three }
-    ensures kept { expr_view x ≡ three_view result.0 (expr_view result.1.node result.1.span) (expr_view result.2.node result.2.span) (expr_view result.3.node result.3.span) }
-    ensures payloads { expr_payloads x ≡ expr_payloads result.1.node ++ (expr_payloads result.2.node ++ expr_payloads result.3.node) }
-    ensures weight { expr_weight x ≡ suc (expr_weight result.1.node + (expr_weight result.2.node + expr_weight result.3.node)) }
+    ensures kept { expr_view x ≡ three_view result.0 (three_at expr_view result.1.value) }
+    ensures payloads { expr_payloads x ≡ three_of expr_payloads result.1.value }
+    ensures weight { expr_weight x ≡ suc (three_weight expr_weight result.1.value) }
 {
     match x {
-        ExprP::Index2(all) => {
-            let (x, y, z) = opened(all);
-            (AroundThree::Index2, x, y, z)
-        }
-        ExprP::If(all) => {
-            let (x, y, z) = opened(all);
-            (AroundThree::If, x, y, z)
-        }
+        ExprP::Index2(all) => (AroundThree::Index2, all),
+        ExprP::If(all) => (AroundThree::If, all),
         _ => unreachable!(),
     }
 }
@@ -99,20 +101,20 @@ pub(crate) fn open_three<P: AstPayload>(
 pub(crate) fn open_slice<P: AstPayload>(
     x: ExprP<P>,
 ) -> (
-    AstExprP<P>,
-    Option<AstExprP<P>>,
-    Option<AstExprP<P>>,
-    Option<AstExprP<P>>,
+    Box<AstExprP<P>>,
+    Option<Box<AstExprP<P>>>,
+    Option<Box<AstExprP<P>>>,
+    Option<Box<AstExprP<P>>>,
 )
     requires { expr_shape x ≡ shape.Slice }
-    ensures kept { expr_view x ≡ tree.index (expr_view result.0.node result.0.span) (tree.slice (bound_of (option_map (λ y. expr_view y.node y.span) result.1)) (bound_of (option_map (λ y. expr_view y.node y.span) result.2)) (bound_of (option_map (λ y. expr_view y.node y.span) result.3))) }
-    ensures payloads { expr_payloads x ≡ expr_payloads result.0.node ++ (maybe_of expr_payloads result.1 ++ (maybe_of expr_payloads result.2 ++ maybe_of expr_payloads result.3)) }
-    ensures weight { expr_weight x ≡ suc (expr_weight result.0.node + (maybe_weight expr_weight result.1 + (maybe_weight expr_weight result.2 + maybe_weight expr_weight result.3))) }
+    ensures kept { expr_view x ≡ tree.index (expr_view result.0.value.node result.0.value.span) (tree.slice (bound_of (option_map (λ y. expr_view y.node y.span) (unboxed result.1))) (bound_of (option_map (λ y. expr_view y.node y.span) (unboxed result.2))) (bound_of (option_map (λ y. expr_view y.node y.span) (unboxed result.3)))) }
+    ensures payloads { expr_payloads x ≡ expr_payloads result.0.value.node ++ (maybe_of expr_payloads (unboxed result.1) ++ (maybe_of expr_payloads (unboxed result.2) ++ maybe_of expr_payloads (unboxed result.3))) }
+    ensures weight { expr_weight x ≡ suc (expr_weight result.0.value.node + (maybe_weight expr_weight (unboxed result.1) + (maybe_weight expr_weight (unboxed result.2) + maybe_weight expr_weight (unboxed result.3)))) }
 {
     let ExprP::Slice(x, a, b, c) = x else {
         unreachable!()
     };
-    (opened(x), maybe_opened(a), maybe_opened(b), maybe_opened(c))
+    (x, a, b, c)
 }
 
 pub(crate) fn open_many<P: AstPayload>(x: ExprP<P>) -> (AroundMany, Vec<AstExprP<P>>)
@@ -159,17 +161,17 @@ pub(crate) fn open_argument<P: AstPayload>(x: ArgumentP<P>) -> (AroundArgument, 
     }
 }
 
-pub(crate) fn open_call<P: AstPayload>(x: ExprP<P>) -> (AstExprP<P>, Vec<AstArgumentP<P>>)
+pub(crate) fn open_call<P: AstPayload>(x: ExprP<P>) -> (Box<AstExprP<P>>, Vec<AstArgumentP<P>>)
     requires { expr_shape x ≡ shape.Call }
-    ensures kept { expr_view x ≡ tree.call (expr_view result.0.node result.0.span) (members same_member (map (λ y. argument_view y.node y.span) result.1.items)) }
-    ensures payloads { expr_payloads x ≡ expr_payloads result.0.node ++ all_of argument_payloads result.1.items }
-    ensures weight { expr_weight x ≡ suc (expr_weight result.0.node + total (node_weight argument_weight) result.1.items) }
+    ensures kept { expr_view x ≡ tree.call (expr_view result.0.value.node result.0.value.span) (members same_member (map (λ y. argument_view y.node y.span) result.1.items)) }
+    ensures payloads { expr_payloads x ≡ expr_payloads result.0.value.node ++ all_of argument_payloads result.1.items }
+    ensures weight { expr_weight x ≡ suc (expr_weight result.0.value.node + total (node_weight argument_weight) result.1.items) }
 {
     let ExprP::Call(x, args) = x else {
         unreachable!()
     };
     let CallArgsP { args } = args;
-    (opened(x), args)
+    (x, args)
 }
 
 pub(crate) fn open_type_expr<P: AstPayload>(x: TypeExprP<P>) -> (AstExprP<P>, P::TypeExprPayload)
@@ -197,42 +199,42 @@ pub(crate) fn open_normal<P: AstPayload>(
     x: ParameterP<P>,
 ) -> (
     AstAssignIdentP<P>,
-    Option<AstTypeExprP<P>>,
-    Option<AstExprP<P>>,
+    Option<Box<AstTypeExprP<P>>>,
+    Option<Box<AstExprP<P>>>,
 )
     requires { parameter_shape x ≡ parameter.Normal }
-    ensures kept { parameter_view x ≡ parameter_of tree.plain result.0 (annotation_of (option_map (λ y. type_view y.node y.span) result.1)) (bound_of (option_map (λ y. expr_view y.node y.span) result.2)) }
-    ensures payloads { parameter_payloads x ≡ assigned_payloads result.0.node ++ (maybe_of type_payloads result.1 ++ maybe_of expr_payloads result.2) }
-    ensures weight { parameter_weight x ≡ suc (maybe_weight type_weight result.1 + maybe_weight expr_weight result.2) }
+    ensures kept { parameter_view x ≡ parameter_of tree.plain result.0 (annotation_of (option_map (λ y. type_view y.node y.span) (unboxed result.1))) (bound_of (option_map (λ y. expr_view y.node y.span) (unboxed result.2))) }
+    ensures payloads { parameter_payloads x ≡ assigned_payloads result.0.node ++ (maybe_of type_payloads (unboxed result.1) ++ maybe_of expr_payloads (unboxed result.2)) }
+    ensures weight { parameter_weight x ≡ suc (maybe_weight type_weight (unboxed result.1) + maybe_weight expr_weight (unboxed result.2)) }
 {
     let ParameterP::Normal(name, ty, default) = x else {
         unreachable!()
     };
-    (name, maybe_opened(ty), maybe_opened(default))
+    (name, ty, default)
 }
 
 pub(crate) fn open_starred<P: AstPayload>(
     x: ParameterP<P>,
-) -> (Starred, AstAssignIdentP<P>, Option<AstTypeExprP<P>>)
+) -> (Starred, AstAssignIdentP<P>, Option<Box<AstTypeExprP<P>>>)
     requires { parameter_shape x ≡ parameter.Starred }
-    ensures kept { parameter_view x ≡ parameter_of (stars_of result.0) result.1 (annotation_of (option_map (λ y. type_view y.node y.span) result.2)) tree.absent }
-    ensures payloads { parameter_payloads x ≡ assigned_payloads result.1.node ++ maybe_of type_payloads result.2 }
-    ensures weight { parameter_weight x ≡ suc (maybe_weight type_weight result.2) }
+    ensures kept { parameter_view x ≡ parameter_of (stars_of result.0) result.1 (annotation_of (option_map (λ y. type_view y.node y.span) (unboxed result.2))) tree.absent }
+    ensures payloads { parameter_payloads x ≡ assigned_payloads result.1.node ++ maybe_of type_payloads (unboxed result.2) }
+    ensures weight { parameter_weight x ≡ suc (maybe_weight type_weight (unboxed result.2)) }
 {
     match x {
-        ParameterP::Args(name, ty) => (Starred::Args, name, maybe_opened(ty)),
-        ParameterP::KwArgs(name, ty) => (Starred::KwArgs, name, maybe_opened(ty)),
+        ParameterP::Args(name, ty) => (Starred::Args, name, ty),
+        ParameterP::KwArgs(name, ty) => (Starred::KwArgs, name, ty),
         _ => unreachable!(),
     }
 }
 
 pub(crate) fn open_lambda<P: AstPayload>(
     x: ExprP<P>,
-) -> (Vec<AstParameterP<P>>, AstExprP<P>, P::DefPayload)
+) -> (Vec<AstParameterP<P>>, Box<AstExprP<P>>, P::DefPayload)
     requires { expr_shape x ≡ shape.Lambda }
-    ensures kept { expr_view x ≡ tree.lambda (members same_member (map (λ y. parameter_view y.node y.span) result.0.items)) (expr_view result.1.node result.1.span) }
-    ensures payloads { expr_payloads x ≡ all_of parameter_payloads result.0.items ++ (expr_payloads result.1.node ++ OfDef result.2 ∷ []) }
-    ensures weight { expr_weight x ≡ suc (total (node_weight parameter_weight) result.0.items + expr_weight result.1.node) }
+    ensures kept { expr_view x ≡ tree.lambda (members same_member (map (λ y. parameter_view y.node y.span) result.0.items)) (expr_view result.1.value.node result.1.value.span) }
+    ensures payloads { expr_payloads x ≡ all_of parameter_payloads result.0.items ++ (expr_payloads result.1.value.node ++ OfDef result.2 ∷ []) }
+    ensures weight { expr_weight x ≡ suc (total (node_weight parameter_weight) result.0.items + expr_weight result.1.value.node) }
 {
     let ExprP::Lambda(x) = x else { unreachable!() };
     let LambdaP {
@@ -240,7 +242,7 @@ pub(crate) fn open_lambda<P: AstPayload>(
         body,
         payload,
     } = x;
-    (params, opened(body), payload)
+    (params, body, payload)
 }
 
 pub(crate) fn open_target_tuple<P: AstPayload>(x: AssignTargetP<P>) -> Vec<AstAssignTargetP<P>>
@@ -255,28 +257,30 @@ pub(crate) fn open_target_tuple<P: AstPayload>(x: AssignTargetP<P>) -> Vec<AstAs
     xs
 }
 
-pub(crate) fn open_target_index<P: AstPayload>(x: AssignTargetP<P>) -> (AstExprP<P>, AstExprP<P>)
+pub(crate) fn open_target_index<P: AstPayload>(
+    x: AssignTargetP<P>,
+) -> Box<(AstExprP<P>, AstExprP<P>)>
     requires { target_shape x ≡ target.Index }
-    ensures kept { target_view x ≡ tree.index (expr_view result.0.node result.0.span) (tree.single (expr_view result.1.node result.1.span)) }
-    ensures payloads { target_payloads x ≡ expr_payloads result.0.node ++ expr_payloads result.1.node }
-    ensures weight { target_weight x ≡ suc (expr_weight result.0.node + expr_weight result.1.node) }
+    ensures kept { target_view x ≡ index_of (both_at expr_view result.value) }
+    ensures payloads { target_payloads x ≡ both_of expr_payloads result.value }
+    ensures weight { target_weight x ≡ suc (both_weight expr_weight result.value) }
 {
     let AssignTargetP::Index(pair) = x else {
         unreachable!()
     };
-    opened(pair)
+    pair
 }
 
-pub(crate) fn open_target_dot<P: AstPayload>(x: AssignTargetP<P>) -> (AstExprP<P>, AstString)
+pub(crate) fn open_target_dot<P: AstPayload>(x: AssignTargetP<P>) -> (Box<AstExprP<P>>, AstString)
     requires { target_shape x ≡ target.Dot }
-    ensures kept { target_view x ≡ tree.dot (expr_view result.0.node result.0.span) (string_bytes result.1.node) result.1.span }
-    ensures payloads { target_payloads x ≡ expr_payloads result.0.node }
-    ensures weight { target_weight x ≡ suc (expr_weight result.0.node) }
+    ensures kept { target_view x ≡ tree.dot (expr_view result.0.value.node result.0.value.span) (string_bytes result.1.node) result.1.span }
+    ensures payloads { target_payloads x ≡ expr_payloads result.0.value.node }
+    ensures weight { target_weight x ≡ suc (expr_weight result.0.value.node) }
 {
     let AssignTargetP::Dot(x, name) = x else {
         unreachable!()
     };
-    (opened(x), name)
+    (x, name)
 }
 
 pub(crate) fn open_target_name<P: AstPayload>(x: AssignTargetP<P>) -> AstAssignIdentP<P>
@@ -321,28 +325,32 @@ pub(crate) fn open_filter<P: AstPayload>(x: ClauseP<P>) -> AstExprP<P>
 
 pub(crate) fn open_list_comprehension<P: AstPayload>(
     x: ExprP<P>,
-) -> (AstExprP<P>, ForClauseP<P>, Vec<ClauseP<P>>)
+) -> (Box<AstExprP<P>>, Box<ForClauseP<P>>, Vec<ClauseP<P>>)
     requires { expr_shape x ≡ shape.ListComprehension }
-    ensures kept { expr_view x ≡ tree.comprehension (tree.item (expr_view result.0.node result.0.span)) (clauses_of (for_clause_view result.1) (map clause_view result.2.items)) }
-    ensures payloads { expr_payloads x ≡ expr_payloads result.0.node ++ (for_clause_payloads result.1 ++ flat_map clause_payloads result.2.items) }
-    ensures weight { expr_weight x ≡ suc (expr_weight result.0.node + (for_clause_weight result.1 + total clause_weight result.2.items)) }
+    ensures kept { expr_view x ≡ tree.comprehension (tree.item (expr_view result.0.value.node result.0.value.span)) (clauses_of (for_clause_view result.1.value) (map clause_view result.2.items)) }
+    ensures payloads { expr_payloads x ≡ expr_payloads result.0.value.node ++ (for_clause_payloads result.1.value ++ flat_map clause_payloads result.2.items) }
+    ensures weight { expr_weight x ≡ suc (expr_weight result.0.value.node + (for_clause_weight result.1.value + total clause_weight result.2.items)) }
 {
     let ExprP::ListComprehension(x, first, rest) = x else {
         unreachable!()
     };
-    (opened(x), opened(first), rest)
+    (x, first, rest)
 }
 
 pub(crate) fn open_dict_comprehension<P: AstPayload>(
     x: ExprP<P>,
-) -> ((AstExprP<P>, AstExprP<P>), ForClauseP<P>, Vec<ClauseP<P>>)
+) -> (
+    Box<(AstExprP<P>, AstExprP<P>)>,
+    Box<ForClauseP<P>>,
+    Vec<ClauseP<P>>,
+)
     requires { expr_shape x ≡ shape.DictComprehension }
-    ensures kept { expr_view x ≡ tree.comprehension (tree.pair (expr_view result.0.0.node result.0.0.span) (expr_view result.0.1.node result.0.1.span)) (clauses_of (for_clause_view result.1) (map clause_view result.2.items)) }
-    ensures payloads { expr_payloads x ≡ both_of expr_payloads result.0 ++ (for_clause_payloads result.1 ++ flat_map clause_payloads result.2.items) }
-    ensures weight { expr_weight x ≡ suc (both_weight expr_weight result.0 + (for_clause_weight result.1 + total clause_weight result.2.items)) }
+    ensures kept { expr_view x ≡ tree.comprehension (both_view (both_at expr_view result.0.value)) (clauses_of (for_clause_view result.1.value) (map clause_view result.2.items)) }
+    ensures payloads { expr_payloads x ≡ both_of expr_payloads result.0.value ++ (for_clause_payloads result.1.value ++ flat_map clause_payloads result.2.items) }
+    ensures weight { expr_weight x ≡ suc (both_weight expr_weight result.0.value + (for_clause_weight result.1.value + total clause_weight result.2.items)) }
 {
     let ExprP::DictComprehension(x, first, rest) = x else {
         unreachable!()
     };
-    (opened(x), opened(first), rest)
+    (x, first, rest)
 }

@@ -7,8 +7,9 @@ ghost use Rattle.starlark_ast.specs.View.{argument_view, expr_view, fstring_view
 ghost use Rattle.starlark_payload.specs.Payloads.{Answers, Begins, Payload, argument_payloads, expr_payloads, fstring_payloads, gives, parameter_payloads, target_payloads, type_payloads};
 
 use crate::f_strings::f_string;
-use crate::mapping::{argument, expression, parameter, target, type_expr};
+use crate::mapping::{expression, parameter, target};
 use crate::payload_map::AstPayloadFunction;
+use crate::single::{argument, type_expr};
 use starlark_ast::ast::{
     AstArgumentP, AstAssignTargetP, AstExprP, AstFStringP, AstParameterP, AstPayload, AstTypeExprP,
 };

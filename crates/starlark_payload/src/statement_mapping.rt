@@ -2,18 +2,20 @@
 
 ghost use Rattle.std.specs.Prelude.{◌≡◌, map};
 ghost use Rattle.starlark_ast.specs.View.{assign_view, def_view, for_view, load_view, stmt_view, target_view};
-ghost use Rattle.starlark_payload.specs.Mapped.{Maps, seen};
-ghost use Rattle.starlark_payload.specs.Payloads.{all_of, assign_payloads, def_payloads, for_payloads, gives, load_payloads, stmt_payloads, target_payloads};
+ghost use Rattle.starlark_payload.specs.Mapped.{Maps, held, seen};
+ghost use Rattle.starlark_payload.specs.Payloads.{all_of, assign_payloads, both_of, def_payloads, for_payloads, gives, load_payloads, stmt_payloads, target_payloads};
 ghost use Rattle.starlark_payload.specs.StatementWeights as form;
+ghost use Rattle.starlark_payload.specs.StatementsAround.{both_seen};
 ghost use Rattle.starlark_payload.specs.declared.statement_nodes.StmtShape.TheVariants as shape;
 
-use crate::boxes::{boxed, maybe_opened, opened};
-use crate::mapping::{maybe, maybe_type, parameters, placed, target};
+use crate::boxes::{boxed, opened};
+use crate::mapping::{boxed_expression, maybe_boxed_type, parameters, target};
 use crate::names::assigned;
 use crate::payload_map::{AstPayloadFunction, IntoMapPayload};
+use crate::single::{maybe, maybe_type, placed};
 use crate::statement_nodes::{Plain, StmtShape};
+use crate::statement_openers as openers;
 use crate::statement_shapes::stmt_shape;
-use crate::{statement_makers as makers, statement_openers as openers};
 use starlark_ast::ast::{
     AssignP, AstAssignTargetP, AstPayload, AstStmtP, DefP, ForP, LoadP, StmtP,
 };
@@ -21,7 +23,7 @@ use starlark_place::pos::Spanned;
 use std::alloc::{AllocError, Global};
 
 /// A target at its place.
-fn placed_target<A: AstPayload, B: AstPayload, F: AstPayloadFunction<A, B>>(
+pub(crate) fn placed_target<A: AstPayload, B: AstPayload, F: AstPayloadFunction<A, B>>(
     alloc: Global,
     x: AstAssignTargetP<A>,
     f: &mut F,
@@ -90,9 +92,8 @@ pub(crate) fn statement<A: AstPayload, B: AstPayload, F: AstPayloadFunction<A, B
         StmtShape::AssignModify => {
             let (lhs, op, rhs) = openers::open_modify(x);
             let lhs = placed_target(alloc, lhs, f)?;
-            let rhs = placed(alloc, rhs, f)?;
-            let right = boxed(alloc, rhs)?;
-            Ok(StmtP::AssignModify(lhs, op, right))
+            let rhs = boxed_expression(alloc, rhs, f)?;
+            Ok(StmtP::AssignModify(lhs, op, rhs))
         }
         StmtShape::Statements => {
             let xs = statements(alloc, openers::open_statements(x), f)?;
@@ -135,9 +136,8 @@ fn branch<A: AstPayload, B: AstPayload, F: AstPayloadFunction<A, B>>(
         unreachable!()
     };
     let condition = placed(alloc, condition, f)?;
-    let body = placed_statement(alloc, opened(body), f)?;
-    let suite = boxed(alloc, body)?;
-    Ok(StmtP::If(condition, suite))
+    let body = suite(alloc, body, f)?;
+    Ok(StmtP::If(condition, body))
 }
 
 /// The condition, then both bodies.
@@ -153,26 +153,46 @@ fn branches<A: AstPayload, B: AstPayload, F: AstPayloadFunction<A, B>>(
     let StmtP::IfElse(condition, bodies) = x else {
         unreachable!()
     };
-    let (body, other) = opened(bodies);
     let condition = placed(alloc, condition, f)?;
-    let body = placed_statement(alloc, body, f)?;
-    let other = placed_statement(alloc, other, f)?;
-    let suites = boxed(alloc, (body, other))?;
-    Ok(StmtP::IfElse(condition, suites))
+    let bodies = suites(alloc, bodies, f)?;
+    Ok(StmtP::IfElse(condition, bodies))
 }
 
-/// A statement at its place.
+/// A statement in a box, at its place.
 #[cycle(statements)]
-fn placed_statement<A: AstPayload, B: AstPayload, F: AstPayloadFunction<A, B>>(
+fn suite<A: AstPayload, B: AstPayload, F: AstPayloadFunction<A, B>>(
     alloc: Global,
-    x: AstStmtP<A>,
+    x: Box<AstStmtP<A>>,
     f: &mut F,
-) -> Result<AstStmtP<B>, AllocError>
-    ensures { Maps (gives F.gives_load F.gives_ident F.gives_ident_assign F.gives_def F.gives_type_expr) f.old (stmt_payloads x.node) (seen stmt_view x) f.new (λ y. stmt_payloads y.node) (seen stmt_view) result }
+) -> Result<Box<AstStmtP<B>>, AllocError>
+    ensures { Maps (gives F.gives_load F.gives_ident F.gives_ident_assign F.gives_def F.gives_type_expr) f.old (stmt_payloads x.value.node) (seen stmt_view x.value) f.new (λ y. stmt_payloads y.value.node) (held (seen stmt_view)) result }
 {
-    let Spanned { span, node } = x;
+    let Spanned { span, node } = opened(x);
     let node = statement(alloc, node, f)?;
-    Ok(Spanned { span, node })
+    boxed(alloc, Spanned { span, node })
+}
+
+/// The bodies of an `if` and of its `else`.
+#[cycle(statements)]
+fn suites<A: AstPayload, B: AstPayload, F: AstPayloadFunction<A, B>>(
+    alloc: Global,
+    x: Box<(AstStmtP<A>, AstStmtP<A>)>,
+    f: &mut F,
+) -> Result<Box<(AstStmtP<B>, AstStmtP<B>)>, AllocError>
+    ensures { Maps (gives F.gives_load F.gives_ident F.gives_ident_assign F.gives_def F.gives_type_expr) f.old (both_of stmt_payloads x.value) (both_seen stmt_view x.value) f.new (held (both_of stmt_payloads)) (held (both_seen stmt_view)) result }
+{
+    let (x, y) = opened(x);
+    let body = statement(alloc, x.node, f)?;
+    let other = statement(alloc, y.node, f)?;
+    let x = Spanned {
+        span: x.span,
+        node: body,
+    };
+    let y = Spanned {
+        span: y.span,
+        node: other,
+    };
+    boxed(alloc, (x, y))
 }
 
 /// Statements, from the first to the last.
@@ -188,8 +208,9 @@ fn statements<A: AstPayload, B: AstPayload, F: AstPayloadFunction<A, B>>(
     rest.reverse();
     let mut done = Vec::new(alloc);
     while let Some(x) = rest.pop() {
-        let y = placed_statement(alloc, x, f)?;
-        done.push(y)?;
+        let Spanned { span, node } = x;
+        let node = statement(alloc, node, f)?;
+        done.push(Spanned { span, node })?;
     }
     Ok(done)
 }
@@ -206,8 +227,8 @@ pub(crate) fn for_loop<A: AstPayload, B: AstPayload, F: AstPayloadFunction<A, B>
     let ForP { var, over, body } = x;
     let var = placed_target(alloc, var, f)?;
     let over = placed(alloc, over, f)?;
-    let body = placed_statement(alloc, opened(body), f)?;
-    makers::for_parts(alloc, var, over, body)
+    let body = suite(alloc, body, f)?;
+    Ok(ForP { var, over, body })
 }
 
 /// The name, the parameters, the type, the body, then its own payload.
@@ -228,7 +249,14 @@ fn def<A: AstPayload, B: AstPayload, F: AstPayloadFunction<A, B>>(
     } = x;
     let name = assigned(name, f);
     let params = parameters(alloc, params, f)?;
-    let return_type = maybe_type(alloc, maybe_opened(return_type), f)?;
-    let body = placed_statement(alloc, opened(body), f)?;
-    makers::def_parts(alloc, name, params, return_type, body, f.map_def(payload))
+    let return_type = maybe_boxed_type(alloc, return_type, f)?;
+    let body = suite(alloc, body, f)?;
+    let payload = f.map_def(payload);
+    Ok(DefP {
+        name,
+        params,
+        return_type,
+        body,
+        payload,
+    })
 }

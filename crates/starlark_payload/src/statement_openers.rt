@@ -11,7 +11,6 @@ ghost use Rattle.starlark_payload.specs.StatementWeights.{def_weight, for_weight
 ghost use Rattle.starlark_payload.specs.Weights.{node_weight, total};
 ghost use Rattle.starlark_payload.specs.declared.statement_nodes.StmtShape.TheVariants as shape;
 
-use crate::boxes::opened;
 use crate::statement_nodes::Plain;
 use starlark_ast::ast::{
     AssignOp, AssignP, AstAssignTargetP, AstExprP, AstPayload, AstStmtP, DefP, ForP, LoadP, StmtP,
@@ -61,15 +60,15 @@ pub(crate) fn open_assign<P: AstPayload>(x: StmtP<P>) -> AssignP<P>
 
 pub(crate) fn open_modify<P: AstPayload>(
     x: StmtP<P>,
-) -> (AstAssignTargetP<P>, AssignOp, AstExprP<P>)
+) -> (AstAssignTargetP<P>, AssignOp, Box<AstExprP<P>>)
     requires { stmt_shape x ≡ shape.AssignModify }
-    ensures kept { stmt_view x ≡ tree.assign (seen target_view result.0) tree.untyped (Some result.1) (seen expr_view result.2) }
-    ensures payloads { stmt_payloads x ≡ target_payloads result.0.node ++ expr_payloads result.2.node }
+    ensures kept { stmt_view x ≡ tree.assign (seen target_view result.0) tree.untyped (Some result.1) (seen expr_view result.2.value) }
+    ensures payloads { stmt_payloads x ≡ target_payloads result.0.node ++ expr_payloads result.2.value.node }
 {
     let StmtP::AssignModify(lhs, op, rhs) = x else {
         unreachable!()
     };
-    (lhs, op, opened(rhs))
+    (lhs, op, rhs)
 }
 
 pub(crate) fn open_statements<P: AstPayload>(x: StmtP<P>) -> Vec<AstStmtP<P>>

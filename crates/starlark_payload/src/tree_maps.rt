@@ -5,8 +5,9 @@ ghost use Rattle.starlark_ast.specs.View.{argument_view, clause_view, expr_view,
 ghost use Rattle.starlark_payload.specs.Payloads.{argument_payloads, clause_payloads, expr_payloads, for_clause_payloads, fstring_payloads, parameter_payloads, target_payloads, type_payloads};
 
 use crate::f_strings::f_string;
-use crate::mapping::{argument, clause, expression, for_clause, parameter, target, type_expr};
+use crate::mapping::{expression, parameter, target};
 use crate::payload_map::{AstPayloadFunction, IntoMapPayload};
+use crate::single::{argument, clause, for_clause, type_expr};
 use starlark_ast::ast::{
     ArgumentP, AssignTargetP, AstPayload, ClauseP, ExprP, FStringP, ForClauseP, ParameterP,
     TypeExprP,

@@ -1,8 +1,8 @@
-use Rattle.std.proofs.Common.{ℕ, ◌+◌, ◌*◌, length}
+use Rattle.std.proofs.Common.{◌+◌, ◌*◌, length}
 use Rattle.starlark_payload.specs.Around.{both_at}
 use Rattle.starlark_payload.specs.Mapped.{seen}
 use Rattle.starlark_payload.proofs.Loops.{Done}
-use Rattle.starlark_payload.specs.Weights.{argument_weight, both_weight, clause_weight, expr_weight, for_clause_weight, maybe_weight, node_weight, parameter_weight, target_weight, total, type_weight}
+use Rattle.starlark_payload.specs.Weights.{argument_weight, both_weight, clause_weight, expr_weight, for_clause_weight, maybe_weight, node_weight, parameter_weight, target_weight, three_weight, total, type_weight, unboxed}
 use Rattle.starlark_payload.specs.Payloads.{argument_payloads, both_of, clause_payloads, expr_payloads, gives, parameter_payloads, target_payloads}
 use Rattle.starlark_ast.specs.View.{argument_view, clause_view, expr_view, parameter_view, target_view}
 use Rattle.starlark_payload.proofs.mapping.+mapping.Given as goal
@@ -10,20 +10,23 @@ use Rattle.starlark_payload.proofs.mapping.+mapping.Given as goal
 abbrev pub decreases-expression : goal.decreases-expression
 decreases-expression g l = 4 * expr_weight l.x
 
-abbrev pub decreases-placed : goal.decreases-placed
-decreases-placed g l = 1 + 4 * expr_weight l.x.node
+abbrev pub decreases-boxed_expression : goal.decreases-boxed_expression
+decreases-boxed_expression g l = 1 + 4 * expr_weight l.x.value.node
 
-abbrev pub decreases-maybe : goal.decreases-maybe
-decreases-maybe g l = 2 + 4 * maybe_weight expr_weight l.x
+abbrev pub decreases-maybe_expression : goal.decreases-maybe_expression
+decreases-maybe_expression g l = 2 + 4 * maybe_weight expr_weight (unboxed l.x)
 
-abbrev pub decreases-argument : goal.decreases-argument
-decreases-argument g l = 4 * argument_weight l.x
+abbrev pub decreases-pair : goal.decreases-pair
+decreases-pair g l = 1 + 4 * both_weight expr_weight l.x.value
 
-abbrev pub decreases-type_expr : goal.decreases-type_expr
-decreases-type_expr g l = 4 * type_weight l.x
+abbrev pub decreases-triple : goal.decreases-triple
+decreases-triple g l = 1 + 4 * three_weight expr_weight l.x.value
 
-abbrev pub decreases-maybe_type : goal.decreases-maybe_type
-decreases-maybe_type g l = 1 + 4 * maybe_weight type_weight l.x
+abbrev pub decreases-boxed_type : goal.decreases-boxed_type
+decreases-boxed_type g l = 4 * type_weight l.x.value.node
+
+abbrev pub decreases-maybe_boxed_type : goal.decreases-maybe_boxed_type
+decreases-maybe_boxed_type g l = 1 + 4 * maybe_weight type_weight (unboxed l.x)
 
 abbrev pub decreases-parameter : goal.decreases-parameter
 decreases-parameter g l = 4 * parameter_weight l.x
@@ -32,10 +35,10 @@ abbrev pub decreases-target : goal.decreases-target
 decreases-target g l = 4 * target_weight l.x
 
 abbrev pub decreases-for_clause : goal.decreases-for_clause
-decreases-for_clause g l = 4 * for_clause_weight l.x
+decreases-for_clause g l = 4 * for_clause_weight l.x.value
 
 abbrev pub decreases-clause : goal.decreases-clause
-decreases-clause g l = 4 * clause_weight l.x
+decreases-clause g l = 4 * clause_weight l.x.value
 
 abbrev pub decreases-expressions : goal.decreases-expressions
 decreases-expressions g l = 4 * total (node_weight expr_weight) l.xs.items
