@@ -326,7 +326,7 @@ pub struct ForP<P: AstPayload> {
     pub body: Box<AstStmtP<P>>,
 }
 
-/// An f-string: a format with `{}` for each expression.
+/// An f-string: a format with a field for each expression, `{!r}` for one with `!r` and `{}` for any other.
 #[cycle(ast)]
 #[derive(Debug, Drop)]
 pub struct FStringP<P: AstPayload> {

@@ -77,7 +77,8 @@ fn write_quoted_bytes<W: fmt::Write>(bytes: &[u8], f: &mut fmt::Formatter<W>) ->
     f.write_str("\"")
 }
 
-/// A literal as it can be written, with escapes in quotes.
+/// A literal, with escapes in quotes. What is printed need not read as the same literal (docs/LANGUAGE.md, What trees
+/// print).
 impl fmt::Display for AstLiteral {
     ghost output = { λ x. Some (literal_shown x) };
 

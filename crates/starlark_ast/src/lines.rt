@@ -293,7 +293,8 @@ fn write_def<P: AstPayload, W: fmt::Write>(
     write_body(depth, &x.body, f)
 }
 
-/// With a line feed behind each line, and two spaces more before each in a block.
+/// With a line feed behind each line that a statement begins, and two spaces more before each in a block. A line feed in
+/// the format of an f-string is printed as it is.
 impl<P: AstPayload> fmt::Display for StmtP<P> {
     ghost output = { λ x. Some (statement_text 0 (stmt_view x nowhere)) };
 

@@ -579,7 +579,7 @@ fn write_targets<P: AstPayload, W: fmt::Write>(
     Ok(())
 }
 
-/// As it can be written, operations in parentheses.
+/// Operations in parentheses. What is printed need not read as the same expression (docs/LANGUAGE.md, What trees print).
 impl<P: AstPayload> fmt::Display for ExprP<P> {
     ghost output = { λ x. Some (expr_text (expr_view x nowhere)) };
 

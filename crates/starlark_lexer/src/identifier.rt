@@ -1,6 +1,6 @@
 //! A text that is one identifier.
 
-ghost use Rattle.std.specs.Prelude.{◌≡◌, ◌≤◌, IfOk, length, true, false};
+ghost use Rattle.std.specs.Prelude.{◌≡◌, ◌≤◌, IfOk, IsOk, length, true, false};
 ghost use Rattle.std.specs.List.{list_all, prefix_len};
 ghost use Rattle.starlark_lexer.specs.Classes as classes;
 ghost use Rattle.starlark_lexer.specs.Identifier as spec;
@@ -67,7 +67,8 @@ fn is_identifier(word: &[u8]) -> bool
 ///
 /// `Err` comes only where there is no memory for it.
 pub fn lex_exactly_one_identifier(alloc: Global, s: &str) -> Result<Option<String>, AllocError>
-    ensures { IfOk result (λ o. Answers s.now o) }
+    ensures answer { IfOk result (λ o. Answers s.now o) }
+    ensures sure { spec.is_one s.now ≡ false → IsOk result }
 {
     let rest = &s[blanks(s.as_bytes())..];
     let len = word_len(rest.as_bytes());

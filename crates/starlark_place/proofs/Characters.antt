@@ -1,8 +1,8 @@
 -- Texts as lists of characters.
-use Rattle.std.proofs.Common.{◌≡◌, ◌<◌, ◌≤◌, ℕ, ◌-◌, List, [], ◌∷◌, ◌++◌, length, take, drop, refl, ap, sym, ◌∙◌, arith, zero, suc, true, false, eqb, inl, inr}
+use Rattle.std.proofs.Common.{◌≡◌, ◌<◌, ◌≤◌, ℕ, ◌+◌, ◌-◌, List, [], ◌∷◌, ◌++◌, length, take, drop, refl, ap, sym, ◌∙◌, arith, zero, suc, true, false, eqb, inl, inr}
 use Rattle.std.specs.Prelude.{slice_get, None}
 use Rattle.std.specs.Str.{IsUtf8, IsCharBoundary, chars}
-use Rattle.std.proofs.lemmas.List.{take-append-drop, take_at, drop_at}
+use Rattle.std.proofs.lemmas.List.{length-append, take-append-drop, take_at, drop_at}
 use Rattle.std.proofs.lemmas.Option.{slice_get_past}
 use Rattle.std.proofs.lemmas.Str.{chars-append, IsUtf8-take, encodes-chars, encodes-append, length-le-encodes, chars-nil}
 use lib.Utf8.{encodes}
@@ -16,6 +16,7 @@ use Rattle.starlark_place.proofs.Counts.{characters-chars}
 pub record IsOffset (text : List ℕ) (i k : ℕ) : Type 0 where
   pub front : chars (take k text) ≡ take i (chars text)
   pub back : chars (drop k text) ≡ drop i (chars text)
+  pub within : i ≤ length (chars text)
 
 pub offset_is : (text : List ℕ) (i k : ℕ) → IsUtf8 text → IsCharBoundary text k → characters (take k text) ≡ i → IsOffset text i k
 offset_is text i k u b n =
@@ -25,6 +26,7 @@ offset_is text i k u b n =
     record {
       front = sym (ap (take i) both ∙ take_at (chars (take k text)) (chars (drop k text)) i long);
       back = sym (ap (drop i) both ∙ drop_at (chars (take k text)) (chars (drop k text)) i long);
+      within = let e : length (chars text) ≡ length (chars (take k text)) + length (chars (drop k text)) = ap length both ∙ length-append (chars (take k text)) (chars (drop k text)) in omega arith;
     }
 
 pub slice_get-drop : (xs : List ℕ) (i : ℕ) → slice_get (drop i xs) 0 ≡ slice_get xs i

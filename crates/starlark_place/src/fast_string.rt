@@ -1,6 +1,6 @@
 //! Texts as lists of characters.
 
-ghost use Rattle.std.specs.Prelude.{◌≡◌, ◌≤◌, ◌<◌, ◌+◌, ◌-◌, ◌^◌, ◌++◌, ◌==◌, ◌∷◌, ◌≤ℤ◌, ℕ, min, pos, nat_abs, length, take, drop, slice_get, count_by, MatchOption, true, false, []};
+ghost use Rattle.std.specs.Prelude.{◌≡◌, ◌≤◌, ◌<◌, ◌+◌, ◌-◌, ◌^◌, ◌++◌, ◌==◌, ◌∷◌, ◌≤ℤ◌, ℕ, min, pos, nat_abs, length, take, drop, slice_get, count_by, IfSome, MatchOption, true, false, []};
 ghost use Rattle.std.specs.Str.{chars, IsCharBoundary};
 ghost use Rattle.starlark_place.specs.Place.{characters};
 ghost use Rattle.starlark_place.specs.Strings.{matches_in, stands_in, begins_with, from_end, index_in, index_or, piece_begin, piece_end, IsCut};
@@ -57,12 +57,11 @@ pub fn at(text: &str, i: CharIndex) -> Option<char>
 
 /// The first `i` characters and the others, or none where there are fewer.
 pub fn split_at(text: &str, i: CharIndex) -> Option<(&str, &str)>
-    ensures { MatchOption result (length (chars text.now) < i.0) (λ r. (chars r.0.now ≡ take i.0 (chars text.now)) × (chars r.1.now ≡ drop i.0 (chars text.now)) × (r.0.now ++ r.1.now ≡ text.now)) }
+    ensures is { MatchOption result (length (chars text.now) < i.0) (λ r. (chars r.0.now ≡ take i.0 (chars text.now)) × (chars r.1.now ≡ drop i.0 (chars text.now)) × (r.0.now ++ r.1.now ≡ text.now)) }
+    ensures within { IfSome result (λ _. i.0 ≤ length (chars text.now)) }
 {
-    match offset_of(text, i.0) {
-        None => None,
-        Some(offset) => Some((&text[..offset], &text[offset..])),
-    }
+    let offset = offset_of(text, i.0)?;
+    Some((&text[..offset], &text[offset..]))
 }
 
 /// How many bytes of a text are `byte`.
@@ -148,7 +147,8 @@ pub fn convert_str_indices(
     start: Option<i32>,
     end: Option<i32>,
 ) -> Option<StrIndices<'_>>
-    ensures { MatchOption result (piece_end (length (chars text.now)) end < piece_begin (length (chars text.now)) start) (IsCut text.now (piece_begin (length (chars text.now)) start) (piece_end (length (chars text.now)) end)) }
+    ensures is { MatchOption result (piece_end (length (chars text.now)) end < piece_begin (length (chars text.now)) start) (IsCut text.now (piece_begin (length (chars text.now)) start) (piece_end (length (chars text.now)) end)) }
+    ensures ordered { IfSome result (λ _. piece_begin (length (chars text.now)) start ≤ piece_end (length (chars text.now)) end) }
 {
     let len = len(text).0;
     let start = piece_begin(len, start);

@@ -17,20 +17,20 @@ is_identifier-requires c =
     let word : c.range-word.result.now ≡ word_at c.args.s.now = word_is c.args.s.now c.range_from-rest.result.now c.as_bytes-2.result.now c.range-word.result.now c.word_len-len.result rest c.as_bytes-2.ensures.value c.word_len-len.ensures.value c.range-word.ensures.value in
     word_all c.args.s.now c.range-word.result.now c.as_bytes-4.result.now word c.as_bytes-4.ensures.value
 
-pub returns-then-not-are_blanks : goal.returns-then-not-are_blanks
-returns-then-not-are_blanks c =
+pub returns-then-not-are_blanks-clause-answer : goal.returns-then-not-are_blanks-clause-answer
+returns-then-not-are_blanks-clause-answer c =
     let rest : c.range_from-rest.result.now ≡ unblanked c.args.s.now = rest_is c.args.s.now c.as_bytes.result.now c.range_from-rest.result.now c.blanks.result c.as_bytes.ensures.value c.blanks.ensures.value c.range_from-rest.ensures.value in
     let after = behind_is c.args.s.now c.range_from-rest.result.now c.as_bytes-2.result.now c.as_bytes-3.result.now c.word_len-len.result rest c.as_bytes-2.ensures.value c.as_bytes-3.ensures.value c.word_len-len.ensures.value in
     not_blank c.args.s.now c.are_blanks.result (c.are_blanks.ensures ∙ ap (list_all is_blank) after) c.if-not-are_blanks.true
 
-pub returns-then-not-is_identifier : goal.returns-then-not-is_identifier
-returns-then-not-is_identifier c =
+pub returns-then-not-is_identifier-clause-answer : goal.returns-then-not-is_identifier-clause-answer
+returns-then-not-is_identifier-clause-answer c =
     let rest : c.range_from-rest.result.now ≡ unblanked c.args.s.now = rest_is c.args.s.now c.as_bytes.result.now c.range_from-rest.result.now c.blanks.result c.as_bytes.ensures.value c.blanks.ensures.value c.range_from-rest.ensures.value in
     let word : c.range-word.result.now ≡ word_at c.args.s.now = word_is c.args.s.now c.range_from-rest.result.now c.as_bytes-2.result.now c.range-word.result.now c.word_len-len.result rest c.as_bytes-2.ensures.value c.word_len-len.ensures.value c.range-word.ensures.value in
     not_identifier c.args.s.now c.is_identifier.result (c.is_identifier.ensures ∙ ap is_identifier (c.as_bytes-4.ensures.value ∙ word)) c.if-not-is_identifier.true
 
-pub returns : goal.returns
-returns c =
+pub returns-clause-answer : goal.returns-clause-answer
+returns-clause-answer c =
     let rest : c.range_from-rest.result.now ≡ unblanked c.args.s.now = rest_is c.args.s.now c.as_bytes.result.now c.range_from-rest.result.now c.blanks.result c.as_bytes.ensures.value c.blanks.ensures.value c.range_from-rest.ensures.value in
     let word : c.range-word.result.now ≡ word_at c.args.s.now = word_is c.args.s.now c.range_from-rest.result.now c.as_bytes-2.result.now c.range-word.result.now c.word_len-len.result rest c.as_bytes-2.ensures.value c.word_len-len.ensures.value c.range-word.ensures.value in
     let after = behind_is c.args.s.now c.range_from-rest.result.now c.as_bytes-2.result.now c.as_bytes-3.result.now c.word_len-len.result rest c.as_bytes-2.ensures.value c.as_bytes-3.ensures.value c.word_len-len.ensures.value in
