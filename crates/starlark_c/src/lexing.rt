@@ -1,6 +1,6 @@
 //! How a text is cut into tokens.
 
-ghost use Rattle.std.specs.Prelude.{◌≡◌, ◌<◌, ◌^◌, IfSome, length};
+ghost use Rattle.std.specs.Prelude.{◌≡◌, ◌<◌, ◌^◌, IfSome, None, false, length};
 ghost use Rattle.std.specs.Bool.{MatchBool};
 ghost use Rattle.std.specs.Str.{IsUtf8};
 ghost use Rattle.starlark_c.specs.Counts.{HasBytes, HasTokens, IsTally, widths};
@@ -18,7 +18,8 @@ use std::str::from_utf8_unchecked;
 #[unsafe(no_mangle)]
 pub extern "C" fn starlark_c_token_count(alloc: Global, text: &[u8], count: &mut u64) -> bool
     requires { IsUtf8 text.now }
-    ensures { MatchBool result (HasTokens text.now count.new) (count.new ≡ count.old) }
+    ensures answer { MatchBool result (HasTokens text.now count.new) (count.new ≡ count.old) }
+    ensures too_long { 4294967295 < length text.now → result ≡ false }
 {
     match cut(alloc, unsafe { from_utf8_unchecked(text) }) {
         Some(tally) => {
@@ -34,7 +35,8 @@ pub extern "C" fn starlark_c_token_count(alloc: Global, text: &[u8], count: &mut
 #[unsafe(no_mangle)]
 pub extern "C" fn starlark_c_token_bytes(alloc: Global, text: &[u8], bytes: &mut u64) -> bool
     requires { IsUtf8 text.now }
-    ensures { MatchBool result (HasBytes text.now bytes.new) (bytes.new ≡ bytes.old) }
+    ensures answer { MatchBool result (HasBytes text.now bytes.new) (bytes.new ≡ bytes.old) }
+    ensures too_long { 4294967295 < length text.now → result ≡ false }
 {
     match cut(alloc, unsafe { from_utf8_unchecked(text) }) {
         Some(tally) => {
@@ -54,7 +56,8 @@ struct Tally {
 
 /// The tally of a text, or none where it is too long or memory runs out.
 fn cut(alloc: Global, text: &str) -> Option<Tally>
-    ensures { IfSome result (λ t. IsTally text.now t) }
+    ensures tally { IfSome result (λ t. IsTally text.now t) }
+    ensures too_long { 4294967295 < length text.now → result ≡ None }
 {
     in_order();
     let codemap = code_map(alloc, text)?;

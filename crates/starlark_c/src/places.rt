@@ -1,6 +1,6 @@
 //! Counts over a text, and lines and columns.
 
-ghost use Rattle.std.specs.Prelude.{◌≡◌, ◌==◌, ◌%◌, ◌^◌, length, count_by, sum_by};
+ghost use Rattle.std.specs.Prelude.{◌≡◌, ◌<◌, ◌==◌, ◌%◌, ◌^◌, false, length, count_by, sum_by};
 ghost use Rattle.std.specs.Bool.{MatchBool};
 ghost use Rattle.std.specs.Str.{chars, IsUtf8};
 ghost use Rattle.starlark_c.specs.Sums.{place_sum};
@@ -41,7 +41,8 @@ pub extern "C" fn starlark_c_resolve(
     total: &mut u64,
 ) -> bool
     requires { IsUtf8 text.now }
-    ensures { MatchBool result (total.new ≡ sum_by (place_sum text.now) places.now % 2 ^ 64) (total.new ≡ total.old) }
+    ensures answer { MatchBool result (total.new ≡ sum_by (place_sum text.now) places.now % 2 ^ 64) (total.new ≡ total.old) }
+    ensures too_long { 4294967295 < length text.now → result ≡ false }
 {
     match code_map(alloc, unsafe { from_utf8_unchecked(text) }) {
         Some(codemap) => {
