@@ -6,7 +6,7 @@ use Rattle.starlark_lexer.specs.Items.{small}
 use Rattle.starlark_lexer.specs.Dialects.{standard, extended}
 use Rattle.starlark_ast.specs.declared.ast.AssignOp.TheVariants.{Add}
 use Rattle.starlark_ast.specs.Tree as t
-use Rattle.starlark_ast.specs.Tree.{Expr, Member, Members, Statement}
+use Rattle.starlark_ast.specs.Tree.{Expr, Member, Members}
 use Rattle.starlark_rules.specs.declared.def.DefRegularParamMode.TheVariants.{PosOnly, PosOrName, NameOnly}
 use Rattle.starlark_rulebook.specs.Rules as r
 use Rattle.starlark_rulebook.specs.Rules.{breaks}

@@ -8,7 +8,7 @@ use Rattle.starlark_place.specs.Place.{Extent}
 use Rattle.starlark_place.specs.declared.pos.Spanned.{Spanned}
 use Rattle.starlark_lexer.specs.declared.dialect.Dialect.{Dialect}
 use Rattle.starlark_ast.specs.Tree as t
-use Rattle.starlark_ast.specs.Tree.{Expr, Clause, Clauses}
+use Rattle.starlark_ast.specs.Tree.{Clause, Clauses}
 use Rattle.starlark_ast.specs.View.{members, expr_at, expr_view, argument_at, parameter_at, boxed_expr, clause_view, for_clause_view, literal_view}
 use Rattle.starlark_ast.specs.Views.{expr_view-Lambda, expr_view-Literal, view-lambda, items_of, pairs_of, clauses_of, clause_view-For, clause_view-If, view-for_clause}
 use Rattle.starlark_ast.specs.Places.{E, children, expr_layer, maybe_place, pair_places, argument_place, parameter_places, for_clause_places, clause_places, clause_layer, target_places}

@@ -5,7 +5,7 @@ use Rattle.std.specs.Prelude.{codes, bytes_eq, IsErrAnd}
 use Rattle.starlark_place.specs.Place.{Extent}
 use Rattle.starlark_ast.specs.declared.ast.BinOp.TheVariants.{BitOr}
 use Rattle.starlark_ast.specs.Tree as t
-use Rattle.starlark_ast.specs.Tree.{Expr, Member, Members, Name}
+use Rattle.starlark_ast.specs.Tree.{Expr, Members, Name}
 use Rattle.starlark_ast.specs.View.{members}
 use Rattle.starlark_rulebook.specs.Rules.{DotTypeBan, InvalidType}
 use Rattle.starlark_rulebook.specs.Parameters.{member_count}
@@ -15,7 +15,6 @@ use Rattle.starlark_rulebook.specs.View.{type_fault_view}
 use Rattle.starlark_rules.specs.declared.types.Stop.{Stop}
 use Rattle.starlark_rules.specs.declared.types.Stop.TheVariants.{NoType, Memory}
 use Rattle.starlark_rules.proofs.Prefixes.{members_more}
-use Rattle.starlark_rules.specs.Sizes.{size, sizes}
 
 -- ---- the same fault
 
@@ -49,21 +48,6 @@ exits v r q x stop e f h = subst (λ y. Comes v q y) (sym e) (stays r q stop f h
 pub comes_as : {A U : Type 0} (v : U → A) (r q : Result A Misfit) (x : Result U Stop) → r ≡ q → Comes v r x → Comes v q x
 comes_as v r q (Ok u) e h = sym e ∙ h
 comes_as v r q (Err stop) e h = stays r q stop (λ m k. sym e ∙ k) h
-
-pub keeps_from : {A B : Type 0} (f : A → B) (r : Result A Misfit) → Keeps r (from f r)
-keeps_from f r e h = ap (from f) h
-
--- what was made
-pub opens : {A U : Type 0} (v : U → A) (r : Result A Misfit) (made : Result U Stop) (x : U) → made ≡ Ok x → Comes v r made → r ≡ Ok (v x)
-opens v r made x e h = subst (λ q. Comes v r q) e h
-
--- nothing was made, and nothing comes of it
-pub shuts : {A B U W : Type 0} (v : U → A) (w : W → B) (f : A → B) (r : Result A Misfit) (made : Result U Stop) (out : Result W Stop) (stop : Stop) → made ≡ Err stop → out ≡ Err stop → Comes v r made → Comes w (from f r) out
-shuts v w f r made out stop e is h = exits w r (from f r) out stop is (keeps_from f r) (subst (λ q. Comes v r q) e h)
-
--- memory ran out
-pub lacks : {B W : Type 0} (w : W → B) (q : Result B Misfit) (out : Result W Stop) → out ≡ Err Memory → Comes w q out
-lacks w q out is = subst (λ y. Comes w q y) (sym is) tt
 
 pub keeps_first : {A B C : Type 0} (f : A → B → C) (r : Result A Misfit) (q : Result B Misfit) → Keeps r (from_both f r q)
 keeps_first f r q e h = ap (λ y. from_both f y q) h
@@ -113,9 +97,6 @@ union_of_two (Ok f) (Err e) s = refl
 union_of_two (Err e) q s = refl
 
 -- ---- two arguments behind a path
-
-pub keeps_path : (u s : Extent) (p : Result Path Misfit) (q r : Result Form Misfit) → Keeps p (index2_of u s p q r)
-keeps_path u s p q r e h = ap (λ y. index2_of u s y q r) h
 
 pub keeps_argument : (u s : Extent) (a : Path) (p : Result Path Misfit) (q r : Result Form Misfit) → p ≡ Ok a → Keeps q (index2_of u s p q r)
 keeps_argument u s a p q r is e h = ap (λ y. index2_of u s y q r) is ∙ keeps_first _ q r e h
@@ -185,10 +166,6 @@ same_alone _ e = refl
 pub list_argument : (x : Expr) (ns : Members) (s : Extent) → t.place x ≡ s → Some ns ≡ list_members x → from (λ fs. list_form fs s) (forms_of argument ns) ≡ form_of argument x
 list_argument (t.list ms u) ns s at e = let same : ns ≡ ms = cc in ap (λ q. from (λ fs. list_form fs s) (forms_of argument q)) same ∙ ap (λ v. from (λ fs. list_form fs v) (forms_of argument ms)) (sym at)
 list_argument _ ns s at e = absurd (cc)
-
-pub list_is_less : (x : Expr) (ns : Members) → Some ns ≡ list_members x → sizes ns < size x
-list_is_less (t.list ms s) ns e = let same : ns ≡ ms = cc in omega (arith, ap sizes same)
-list_is_less _ ns e = absurd (cc)
 
 -- a list that is a union
 pub union_is : (ms : Members) (s : Extent) → 2 ≤ member_count ms → form_of alone (t.list ms s) ≡ from (λ fs. union_form fs s) (forms_of alone ms)

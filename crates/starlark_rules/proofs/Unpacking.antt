@@ -1,5 +1,7 @@
 -- The arguments of a call that breaks no rule, by their kinds.
-use Rattle.std.proofs.Common.{ℕ, suc, ◌+◌, ◌-◌, ◌<◌, ◌≤◌, ◌≡◌, Bool, true, false, cond, not, refl, sym, ap, ◌∙◌, List, [], ◌∷◌, ◌++◌, length, take, drop, take-append-drop, fold, get_or, count_by, Option, Some, None, arith}
+use Rattle.std.proofs.Common.{ℕ, suc, ◌+◌, ◌-◌, ◌<◌, ◌≤◌, ◌≡◌, Bool, true, false, cond, not, refl, sym, ap, ◌∙◌, List, [], ◌∷◌, ◌++◌, length, take, drop, take-append-drop, fold, get_or, count_by, append_assoc, inl, inr, Option, Some, None, arith}
+use Rattle.std.proofs.lemmas.Bool.{cases_Bool}
+use Rattle.std.proofs.lemmas.List.{take_more}
 use Rattle.std.proofs.lemmas.List.Sums.{fold-append, sum_by-cons, sum_by_more}
 use Rattle.std.proofs.Math.Seq.{take-length}
 use Rattle.starlark_place.specs.Place.{Extent}
@@ -9,12 +11,12 @@ use Rattle.starlark_ast.specs.Tree.{Expr, Member, Members, Clause, Annotation, m
 use Rattle.starlark_ast.specs.declared.ast.ArgumentP.{ArgumentP, ArgumentP-F, fold_out-ArgumentP}
 use Rattle.starlark_ast.specs.declared.ast.ArgumentP.TheOpen as layer
 use Rattle.starlark_ast.specs.View.{members, argument_at, argument_step, target_step, clause_step, expr_step, parameter_step, call_args_step, fstring_step, for_clause_step, lambda_step, type_step}
-use Rattle.starlark_rulebook.specs.Rules.{Finding, first_of}
+use Rattle.starlark_rulebook.specs.Rules.{Finding}
 use Rattle.starlark_rulebook.specs.Calls.{any, first_call_fault, argument_fault, is_other, is_star}
-use Rattle.starlark_rules.specs.Unpacked.{is_positional, is_named, only, first_in}
+use Rattle.starlark_rules.specs.Unpacked.{is_positional, is_named, only, first_that}
 use Rattle.starlark_rulebook.specs.Parameters.{member_count}
 use Rattle.starlark_rules.proofs.Converting.{none_first, none_second}
-use Rattle.starlark_rules.proofs.Prefixes.{members_more, count_members}
+use Rattle.starlark_rules.proofs.Prefixes.{count_members}
 
 -- some members and others behind them
 abbrev pub join : Members → Members → Members
@@ -189,18 +191,25 @@ left_none p xs i n e h =
     let w : count_by p (take i xs) ≡ count_by p xs = ap (λ k. count_by p (take k xs)) e ∙ ap (count_by p) (take-length xs) in
     omega (arith, e, h, w)
 
--- ---- the first that gives something
+-- ---- the first that passes
 
--- none so far, and none of the next one
-pub still_none : {X A : Type 0} (f : Member → Option A) (h : X → Member) (xs : List X) (i : ℕ) (x : X) → i < length xs → x ≡ get_or xs i x → first_in f (members h (take i xs)) ≡ None → f (h x) ≡ None → first_in f (members h (take (i + 1) xs)) ≡ None
-still_none f h xs i x below is clean e = ap (first_in f) (members_more h xs i x below is) ∙ ap (λ o. first_of o (f (h x))) clean ∙ e
+first_behind : {X : Type 0} (p : X → Bool) (xs ys : List X) → first_that p xs ≡ None → first_that p (xs ++ ys) ≡ first_that p ys
+first_behind p [] ys e = refl
+first_behind p (x ∷ xs) ys e = elim (cases_Bool (p x)) [
+  | inl h ↦ absurd (let f : cond (p x) (Some x) (first_that p xs) ≡ None = e in let g : Some x ≡ None = rw h at f in cc)
+  | inr h ↦ (let f : first_that p xs ≡ None = rw h at e in rw h (first_behind p xs ys f))
+]
 
-stays : {X A : Type 0} (f : Member → Option A) (h : X → Member) (ms : Members) (a : A) (ys : List X) → first_in f ms ≡ Some a → first_in f (fold (λ ms y. more ms (h y)) ms ys) ≡ Some a
-stays f h ms a [] e = e
-stays f h ms a (y ∷ ys) e = stays f h (more ms (h y)) a ys (ap (λ o. first_of o (f (h y))) e)
+-- none so far, nor the next
+pub still_none : {X : Type 0} (p : X → Bool) (xs : List X) (i : ℕ) (x : X) → i < length xs → x ≡ get_or xs i x → first_that p (take i xs) ≡ None → p x ≡ false → first_that p (take (i + 1) xs) ≡ None
+still_none p xs i x below is clean fails =
+    let one : first_that p (x ∷ []) ≡ None = rw fails refl in
+    ap (first_that p) (take_more xs i x below ∙ ap (λ y. take i xs ++ y ∷ []) (sym is)) ∙ first_behind p (take i xs) (x ∷ []) clean ∙ one
 
--- none so far, and one of the next
-pub found_in : {X A : Type 0} (f : Member → Option A) (h : X → Member) (xs : List X) (i : ℕ) (x : X) (a : A) → i < length xs → x ≡ get_or xs i x → first_in f (members h (take i xs)) ≡ None → f (h x) ≡ Some a → first_in f (members h xs) ≡ Some a
-found_in f h xs i x a below is clean found =
-    let here : first_in f (members h (take (i + 1) xs)) ≡ Some a = ap (first_in f) (members_more h xs i x below is) ∙ ap (λ o. first_of o (f (h x))) clean ∙ found in
-    ap (λ ys. first_in f (members h ys)) (sym (take-append-drop (i + 1) xs)) ∙ ap (first_in f) (fold-append (λ ms y. more ms (h y)) none (take (i + 1) xs) (drop (i + 1) xs)) ∙ stays f h (members h (take (i + 1) xs)) a (drop (i + 1) xs) here
+-- none so far, but the next
+pub found_that : {X : Type 0} (p : X → Bool) (xs : List X) (i : ℕ) (x : X) → i < length xs → x ≡ get_or xs i x → first_that p (take i xs) ≡ None → p x ≡ true → first_that p xs ≡ Some x
+found_that p xs i x below is clean passes =
+    let whole : xs ≡ take i xs ++ x ∷ drop (i + 1) xs =
+    sym (take-append-drop (i + 1) xs) ∙ ap (λ ys. ys ++ drop (i + 1) xs) (take_more xs i x below ∙ ap (λ y. take i xs ++ y ∷ []) (sym is)) ∙ append_assoc (take i xs) (x ∷ []) (drop (i + 1) xs) in
+    let here : first_that p (x ∷ drop (i + 1) xs) ≡ Some x = rw passes refl in
+    ap (first_that p) whole ∙ first_behind p (take i xs) (x ∷ drop (i + 1) xs) clean ∙ here

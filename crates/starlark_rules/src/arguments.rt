@@ -1,15 +1,15 @@
 //! The arguments of a call, by their kinds.
 
-ghost use Rattle.std.specs.Prelude.{◌≡◌, ◌<◌, ◌-◌, None, IfOk, IfErr, count_by, if◌then◌else◌};
+ghost use Rattle.std.specs.Prelude.{◌≡◌, ◌<◌, ◌-◌, None, IfOk, IfErr, IsOk, count_by, if◌then◌else◌};
 ghost use Rattle.starlark_ast.specs.View.{argument_at, call_args_view, members};
 ghost use Rattle.starlark_rulebook.specs.Calls as calls;
 ghost use Rattle.starlark_rules.specs.Unpacked as unpacked;
-ghost use Rattle.starlark_rules.specs.Unpacked.{AreByKind, Unpacks, lent_expr};
+ghost use Rattle.starlark_rules.specs.Unpacked.{AreByKind, Unpacks, first_that, lent_argument};
 ghost use Rattle.starlark_rulebook.specs.View.{IsPlaced, RefusesFor};
 
 use crate::call::call_fault;
 use crate::finding::refused;
-use starlark_ast::ast::{ArgumentP, AstArgumentP, AstExprP, AstPayload, CallArgsP};
+use starlark_ast::ast::{ArgumentP, AstArgumentP, AstPayload, CallArgsP};
 use starlark_place::codemap::CodeMap;
 use starlark_rulebook::rule::RuleException;
 use std::alloc::Global;
@@ -21,10 +21,10 @@ pub struct CallArgsUnpack<'a, P: AstPayload> {
     pub pos: &'a [AstArgumentP<P>],
     /// The named ones.
     pub named: &'a [AstArgumentP<P>],
-    /// What stands behind `*`.
-    pub star: Option<&'a AstExprP<P>>,
-    /// What stands behind `**`.
-    pub star_star: Option<&'a AstExprP<P>>,
+    /// The one with `*`.
+    pub star: Option<&'a AstArgumentP<P>>,
+    /// The one with `**`.
+    pub star_star: Option<&'a AstArgumentP<P>>,
 }
 
 impl<'a, P: AstPayload> CallArgsUnpack<'a, P> {
@@ -39,6 +39,7 @@ impl<'a, P: AstPayload> CallArgsUnpack<'a, P> {
         requires { IsPlaced codemap.now.source (calls.first_call_fault (call_args_view args.now)) }
         ensures clean { IfOk result (λ u. calls.first_call_fault (call_args_view args.now) ≡ None) }
         ensures taken { IfOk result (λ u. Unpacks args.now u) }
+        ensures sure { calls.first_call_fault (call_args_view args.now) ≡ None → IsOk result }
         ensures refused { IfErr result (RefusesFor (calls.first_call_fault (call_args_view args.now)) codemap.now) }
     {
         if let Some(found) = call_fault(&args.args) {
@@ -117,50 +118,50 @@ fn is_named<P: AstPayload>(x: &AstArgumentP<P>) -> bool
     }
 }
 
-/// What stands behind the first `*`.
-fn star<P: AstPayload>(args: &[AstArgumentP<P>]) -> Option<&AstExprP<P>>
-    ensures { lent_expr result ≡ unpacked.first_in unpacked.starred (members argument_at args.now) }
+/// The first with `*`.
+fn star<P: AstPayload>(args: &[AstArgumentP<P>]) -> Option<&AstArgumentP<P>>
+    ensures { lent_argument result ≡ first_that (λ x. unpacked.is_starred (argument_at x)) args.now }
 {
     for x in args {
-        if let Some(found) = starred(x) {
-            return Some(found);
+        if is_starred(x) {
+            return Some(x);
         }
     }
     None
 }
 
-/// What stands behind the first `**`.
-fn star_star<P: AstPayload>(args: &[AstArgumentP<P>]) -> Option<&AstExprP<P>>
-    ensures { lent_expr result ≡ unpacked.first_in unpacked.double_starred (members argument_at args.now) }
+/// The first with `**`.
+fn star_star<P: AstPayload>(args: &[AstArgumentP<P>]) -> Option<&AstArgumentP<P>>
+    ensures { lent_argument result ≡ first_that (λ x. unpacked.is_double_starred (argument_at x)) args.now }
 {
     for x in args {
-        if let Some(found) = double_starred(x) {
-            return Some(found);
+        if is_double_starred(x) {
+            return Some(x);
         }
     }
     None
 }
 
-/// What stands behind its `*`.
-fn starred<P: AstPayload>(x: &AstArgumentP<P>) -> Option<&AstExprP<P>>
-    ensures { lent_expr result ≡ unpacked.starred (argument_at x.now) }
+/// Whether the argument has `*`.
+fn is_starred<P: AstPayload>(x: &AstArgumentP<P>) -> bool
+    ensures { result ≡ unpacked.is_starred (argument_at x.now) }
 {
     match &x.node {
-        ArgumentP::Positional(_) => None,
-        ArgumentP::Named(_, _) => None,
-        ArgumentP::Args(inner) => Some(inner),
-        ArgumentP::KwArgs(_) => None,
+        ArgumentP::Positional(_) => false,
+        ArgumentP::Named(_, _) => false,
+        ArgumentP::Args(_) => true,
+        ArgumentP::KwArgs(_) => false,
     }
 }
 
-/// What stands behind its `**`.
-fn double_starred<P: AstPayload>(x: &AstArgumentP<P>) -> Option<&AstExprP<P>>
-    ensures { lent_expr result ≡ unpacked.double_starred (argument_at x.now) }
+/// Whether the argument has `**`.
+fn is_double_starred<P: AstPayload>(x: &AstArgumentP<P>) -> bool
+    ensures { result ≡ unpacked.is_double_starred (argument_at x.now) }
 {
     match &x.node {
-        ArgumentP::Positional(_) => None,
-        ArgumentP::Named(_, _) => None,
-        ArgumentP::Args(_) => None,
-        ArgumentP::KwArgs(inner) => Some(inner),
+        ArgumentP::Positional(_) => false,
+        ArgumentP::Named(_, _) => false,
+        ArgumentP::Args(_) => false,
+        ArgumentP::KwArgs(_) => true,
     }
 }

@@ -102,35 +102,35 @@ pub struct DefParamIndices {
 
 impl DefParamIndices {
     /// Those before the `/`.
-    pub fn pos_only(&self) -> Range<u32>
+    pub fn pos_only(&self) -> Range<usize>
         ensures from { result.start ≡ 0 }
         ensures to { result.end ≡ self.now.num_positional_only }
     {
-        0..self.num_positional_only
+        0..self.num_positional_only as usize
     }
 
     /// Those behind the `/` and before `*`, `*args` and `**kwargs`.
-    pub fn pos_or_named(&self) -> Range<u32>
+    pub fn pos_or_named(&self) -> Range<usize>
         requires { self.now.num_positional_only ≤ self.now.num_positional }
         ensures from { result.start ≡ self.now.num_positional_only }
         ensures to { result.end ≡ self.now.num_positional }
     {
-        self.num_positional_only..self.num_positional
+        self.num_positional_only as usize..self.num_positional as usize
     }
 
     /// Those behind `*` or `*args` and before `**kwargs`, of `count` in all.
-    pub fn named_only(&self, count: usize) -> Range<u32>
+    pub fn named_only(&self, count: usize) -> Range<usize>
         requires { AreWithin self.now count }
         ensures from { result.start ≡ behind_args self.now }
         ensures to { result.end ≡ unwrap_or self.now.kwargs count }
     {
         let start = match self.args {
-            Some(args) => args + 1,
-            None => self.num_positional,
+            Some(args) => args as usize + 1,
+            None => self.num_positional as usize,
         };
         let end = match self.kwargs {
-            Some(kwargs) => kwargs,
-            None => count as u32,
+            Some(kwargs) => kwargs as usize,
+            None => count,
         };
         start..end
     }

@@ -2,7 +2,7 @@
 
 ghost use Rattle.std.specs.Prelude.{◌≡◌, ◌++◌};
 ghost use Rattle.starlark_ast.specs.Tree as t;
-ghost use Rattle.starlark_ast.specs.View.{argument_at, boxed_expr, boxed_type, clause_view, expr_at, for_clause_view, lambda_view, members, parameter_at, target_at};
+ghost use Rattle.starlark_ast.specs.View.{argument_at, boxed_expr, boxed_type, clause_view, expr_at, for_clause_view, members, parameter_at, target_at};
 ghost use Rattle.starlark_ast.specs.Views.{clauses_of, items_of, pairs_of, targets_of};
 ghost use Rattle.starlark_rulebook.specs.Calls.{first_call_fault};
 ghost use Rattle.starlark_rulebook.specs.Kept as kept;

@@ -1,6 +1,6 @@
 //! Types, taken apart.
 
-ghost use Rattle.std.specs.Prelude.{◌≡◌, ◌∷◌, ◌++◌, [], IfOk, OnOk, Result, map, string_bytes};
+ghost use Rattle.std.specs.Prelude.{◌≡◌, ◌++◌, [], IfOk, OnOk, Result, map, string_bytes};
 ghost use Rattle.starlark_place.specs.Place.{Extent};
 ghost use Rattle.starlark_ast.specs.Tree as tree;
 ghost use Rattle.starlark_ast.specs.View.{expr_at, literal_view};

@@ -9,7 +9,9 @@ use starlark_parser::rules::def::{DefParamKind, DefParams, DefRegularParamMode};
 use starlark_parser::rules::parameters::parameter_fault;
 use starlark_parser::rules::type_expr::{TypeExprUnpackP, type_str_literal_is_wildcard};
 use starlark_parser::rules::types::type_fault;
-use std::alloc::AllocError;
+use starlark_place::diagnostic::Refusal;
+use std::alloc::{AllocError, Global};
+use std::process::Abort;
 use std::test::Fail;
 
 #[test]
@@ -32,8 +34,8 @@ fn arguments(rt: HostRuntime) -> Result<(), Fail> {
     assert_eq!(rt; found.pos[0].span, span(2, 3));
     assert_eq!(rt; found.named.len(), 1);
     assert_eq!(rt; found.named[0].span, span(8, 13));
-    assert!(rt; matches!(found.star, Some(x) if x.span == span(16, 17)));
-    assert!(rt; matches!(found.star_star, Some(x) if x.span == span(21, 22)));
+    assert!(rt; matches!(found.star, Some(x) if x.span == span(15, 17)));
+    assert!(rt; matches!(found.star_star, Some(x) if x.span == span(19, 22)));
     Ok(())
 }
 
@@ -110,6 +112,45 @@ fn types(rt: HostRuntime) -> Result<(), Fail> {
     assert_eq!(rt; first.span, span(8, 11));
     assert!(rt; matches!(&second.node, TypeExprUnpackP::Union(members) if members.len() == 2));
     assert_eq!(rt; second.span, span(13, 29));
+    Ok(())
+}
+
+/// What the refusal of an expression as a type prints: why, and where.
+fn refused_type(rt: &impl Abort, alloc: Global, text: &str) -> Result<String, Fail> {
+    let module = parsed(alloc, text)?;
+    let StmtP::Expression(x) = &module.statement().node else {
+        return Err(Fail::from(AllocError));
+    };
+    let Some(found) = type_fault(alloc, x)? else {
+        return Err(Fail::from(AllocError));
+    };
+    assert!(rt; module.codemap().holds(found.span));
+    let Err(Refusal::Fault(fault)) = TypeExprUnpackP::unpack(alloc, x, module.codemap()) else {
+        panic!(rt; "it is taken, or memory ran out")
+    };
+    Ok(fault.to_string(alloc)?)
+}
+
+/// Expressions that are no types, and what their refusals print.
+static NO_TYPES: [(&str, &str); 4] = [
+    ("[]", "a type may not be an empty list: t:1:1-3"),
+    ("a | []", "a type may not be an empty list: t:1:5-7"),
+    (
+        "a[\"b\"]",
+        "a type may not be this: string literal: t:1:3-6",
+    ),
+    (
+        "a.b.type",
+        "a type may not end in `.type`: write `a.b`: t:1:1-2",
+    ),
+];
+
+#[test]
+fn no_types(rt: HostRuntime) -> Result<(), Fail> {
+    for (text, want) in &NO_TYPES {
+        let shown = refused_type(&rt, rt.alloc(), text)?;
+        assert_eq!(rt; shown.as_str(), *want, "{text}");
+    }
     Ok(())
 }
 

@@ -1,4 +1,4 @@
-use Rattle.std.proofs.Common.{◌≡◌, ◌∙◌, sym, ap, subst, Option, Some}
+use Rattle.std.proofs.Common.{◌≡◌, ◌∙◌, sym, ap, subst, Option, Some, None}
 use Rattle.starlark_ast.specs.View.{argument_at, call_args_view, members}
 use Rattle.starlark_ast.specs.Views.{view-args}
 use Rattle.starlark_rulebook.specs.Calls.{first_call_fault}
@@ -19,3 +19,8 @@ returns-in-Some-clause-refused g c =
 pub returns-clause-clean : goal.returns-clause-clean
 returns-clause-clean g c =
     ap first_call_fault (view-args c.args.args.now) ∙ ap (λ xs. first_call_fault (members argument_at xs)) (sym c.deref.ensures.value) ∙ sym c.call_fault.ensures ∙ ap maybe_finding c.in_default.is
+
+pub returns-in-Some-clause-sure : goal.returns-in-Some-clause-sure
+returns-in-Some-clause-sure g c =
+    let is : first_call_fault (call_args_view c.args.args.now) ≡ Some (finding_of c.in-Some.found) = ap first_call_fault (view-args c.args.args.now) ∙ ap (λ xs. first_call_fault (members argument_at xs)) (sym c.deref.ensures.value) ∙ sym c.call_fault.ensures ∙ ap maybe_finding c.in-Some.is in
+    λ none. absurd (let some : Some (finding_of c.in-Some.found) ≡ None = sym is ∙ none in cc)
