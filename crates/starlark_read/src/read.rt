@@ -22,8 +22,9 @@ use starlark_lexer::dialect::Dialect;
 use starlark_lexer::lexer::Lexer;
 use std::alloc::Global;
 
-/// The tree of all that a lexer has left, as `B` makes it, or why there is none. It tells the comments and what it took
-/// to read. Where memory ran out, what is told of the cost is what was spent until then.
+/// The tree of all that a lexer has left, as `B` makes it, or why there is none. It tells what it took to read, and where
+/// there is a tree the comments of the text: else some of them. Where memory ran out, what is told of the cost is what
+/// was spent until then.
 pub fn read<B: Build>(
     alloc: Global,
     lexer: Lexer<'_>,

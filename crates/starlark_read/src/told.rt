@@ -1,6 +1,6 @@
 //! What a reading tells beside its tree.
 
-ghost use Rattle.std.specs.Prelude.{◌≡◌, IfOk};
+ghost use Rattle.std.specs.Prelude.{◌≡◌, IfOk, []};
 
 use crate::cost::Cost;
 use starlark_place::pos::Span;
@@ -11,7 +11,7 @@ use std::alloc::{AllocError, Global};
 pub struct Comments {
     /// Each from its `#` on, in order.
     pub places: Vec<Span>,
-    /// As many as there are places.
+    /// As many as there are places, where a tree was made.
     pub joined: Vec<bool>,
 }
 
@@ -37,7 +37,9 @@ pub struct Told {
 impl Told {
     /// Of a text that was not read.
     pub fn nothing(alloc: Global) -> Told
-        ensures { result.cost ≡ record { reads = 0; asks = 0 } }
+        ensures cost { result.cost ≡ record { reads = 0; asks = 0 } }
+        ensures places { result.comments.places.items ≡ [] }
+        ensures joined { result.comments.joined.items ≡ [] }
     {
         Told {
             comments: Comments {
