@@ -1,5 +1,5 @@
 -- What of edits can hold together.
-use Rattle.std.proofs.Common.{◌≡◌, ◌<◌, ◌≤◌, ◌⊎◌, ℕ, ◌+◌, ◌++◌, List, length, map, inl, inr, zero, suc, [], ◌∷◌, Some, refl, ap, sym, ◌∙◌, arith, subst}
+use Rattle.std.proofs.Common.{◌≡◌, ◌<◌, ◌≤◌, ◌⊎◌, ℕ, List, length, inl, inr, zero, suc, [], ◌∷◌, Some, refl, ap, sym, ◌∙◌, arith, subst}
 use Rattle.std.specs.List.{insert, remove}
 use Rattle.std.specs.Str.{IsUtf8}
 use Rattle.starlark_place.specs.Resolved.{resolved_span}

@@ -1,5 +1,6 @@
 pub mod Known
 pub mod Lines
+pub mod Paid
 pub mod Taking
 pub mod Cutting
 pub mod Blocks

@@ -40,20 +40,8 @@ pub grows : (n : ℕ) (bs : List ℕ) → n ≤ value_from n bs
 grows n [] = omega arith
 grows n (b ∷ bs) = let h = grows (n * 10 + (b - 48)) bs in omega (arith, h)
 
-pub next_value : (v i t : ℕ) (ds : List ℕ) → i < length ds → value_from v (drop i ds) ≡ t → value_from (v * 10 + (get_or ds i 0 - 48)) (drop (i + 1) ds) ≡ t
-next_value v i t ds l h = rw add-one (rw (drop-cons ds i 0 l) at h)
-
-pub next_digit : (i : ℕ) (ds : List ℕ) → i < length ds → is_digit (get_or ds i 0) ≡ true → list_all is_digit (drop i ds) ≡ list_all is_digit ds
-    → list_all is_digit (drop (i + 1) ds) ≡ list_all is_digit ds
-next_digit i ds l d h = rw add-one (rw (drop-cons ds i 0 l, d) at h)
-
 not_spelled : (ds : List ℕ) → spells ds ≡ false → number_of ds ≡ None
 not_spelled ds h = rw h refl
-
-pub no_digit : (i : ℕ) (ds : List ℕ) → i < length ds → is_digit (get_or ds i 0) ≡ false → list_all is_digit (drop i ds) ≡ list_all is_digit ds → number_of ds ≡ None
-no_digit i ds l d h =
-    let all : list_all is_digit ds ≡ false = sym (rw (drop-cons ds i 0 l, d) at h) in
-    not_spelled ds (grind (arith, nat_tests))
 
 pub too_great : (v i : ℕ) (ds : List ℕ) → 4294967295 < v → value_from v (drop i ds) ≡ value_from 0 ds → number_of ds ≡ None
 too_great v i ds l h =

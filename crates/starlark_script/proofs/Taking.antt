@@ -92,13 +92,6 @@ line_long (Some xs) (Some ms) (Some ns) w buf b l p q h k =
     let some : 0 < length (v ++ ns) = rw (length-append v ns) (omega arith) in
     rw (e, front_is (v ++ ns) some, later_line v ns (no_more 10 w b p q)) (too_long v (first_line ns) long)
 
-pub skipped_more : (old mid new : Option (List ℕ)) (bs cs : List ℕ) (m n : ℕ) → length bs ≡ m → length cs ≡ n → Consumes old mid bs → Consumes mid new cs → IsSkipped old new (m + n) true
-skipped_more None mid new bs cs m n l p h k = tt
-skipped_more (Some xs) None new bs cs m n l p h k = absurd h
-skipped_more (Some xs) (Some ms) None bs cs m n l p h k = absurd k
-skipped_more (Some xs) (Some ms) (Some ns) bs cs m n l p h k =
-    (bs ++ cs, ns, h ∙ ap (λ z. bs ++ z) k ∙ sym (append_assoc bs cs ns), rw (length-append bs cs) (omega arith), refl)
-
 -- some bytes, one that finds no memory, and so many behind it
 pub wanting : (old mid last new : Option (List ℕ)) (bs : List ℕ) (b i n : ℕ) → length bs ≡ i → i < n → Consumes old mid bs → Consumes mid last (b ∷ []) → IsSkipped last new (n - i - 1) true → IsTaken old new n texts.Wanting
 wanting None mid last new bs b i n l m h k s = tt
@@ -113,12 +106,6 @@ stops_in_line None mid left w p l h k = tt
 stops_in_line (Some xs) None left w p l h k = absurd h
 stops_in_line (Some xs) (Some ms) None w p l h k = absurd k
 stops_in_line (Some xs) (Some ms) (Some ys) w p l h k = (w, h ∙ ap (λ z. w ++ z) k, line_none w p, l)
-
-pub stops_before : (old mid left : Option (List ℕ)) (bs : List ℕ) (n : ℕ) → length bs < n → Consumes old mid bs → Consumes mid left [] → StopsBefore n old left
-stops_before None mid left bs n l h k = tt
-stops_before (Some xs) None left bs n l h k = absurd h
-stops_before (Some xs) (Some ms) None bs n l h k = absurd k
-stops_before (Some xs) (Some ms) (Some ys) bs n l h k = (bs, h ∙ ap (λ z. bs ++ z) k, l)
 
 pub stops_later : (old mid last left : Option (List ℕ)) (bs : List ℕ) (b i n : ℕ) → length bs ≡ i → i < n → Consumes old mid bs → Consumes mid last (b ∷ []) → StopsBefore (n - i - 1) last left → StopsBefore n old left
 stops_later None mid last left bs b i n l m h k s = tt

@@ -58,6 +58,12 @@ IsSkipped None new n b = Unit {0}
 IsSkipped (Some xs) new n true = (bs : List ℕ) × (rest : List ℕ) × (xs ≡ bs ++ rest) × (length bs ≡ n) × (new ≡ Some rest)
 IsSkipped (Some xs) new n false = length xs < n
 
+-- whether all of them were there
+abbrev pub text_goes : Taken → Bool
+text_goes (texts.Text v) = true
+text_goes texts.Wanting = true
+text_goes texts.Short = false
+
 -- no read gave 0 bytes before the last of the bytes
 abbrev pub TextEnds : ℕ → ℕ → Taken → Type 0
 TextEnds old new (texts.Text v) = new ≡ old

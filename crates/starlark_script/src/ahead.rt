@@ -1,8 +1,8 @@
 //! Buffered reading. No more is read ahead than the buffer holds.
 
-ghost use Rattle.std.specs.Prelude.{◌≡◌, ◌≢◌, ℕ, ◌+◌, ◌-◌, ◌<◌, ◌≤◌, ◌⊎◌, List, [], ◌∷◌, ◌++◌, Bool, true, false, length, take, drop, IfOk, IfErr, OnErr, OnOk, MatchOption, vec_len};
+ghost use Rattle.std.specs.Prelude.{◌≡◌, ◌-◌, ◌<◌, ◌≤◌, ◌⊎◌, [], ◌∷◌, true, false, length, take, drop, IfOk, IfErr, OnErr, OnOk, IfSome, MatchOption, vec_len};
 ghost use Rattle.std.specs.Io.KnownBytes.{Consumes, IsAtEnd};
-ghost use Rattle.starlark_script.specs.Coming.{coming, weight};
+ghost use Rattle.starlark_script.specs.Coming.{Pays, coming, weight};
 ghost use Rattle.starlark_script.specs.Device.{CountsOn};
 
 use crate::device::Source;
@@ -67,6 +67,8 @@ impl Ahead {
         ensures weight { weight self.new ≤ weight self.old }
         ensures count { CountsOn (self.old.reads - self.new.reads) (R.reads reader.old) (R.reads reader.new) }
         ensures fewer { self.new.reads ≤ self.old.reads }
+        ensures paid { Pays self.old.reads self.new.reads 1 (R.remaining reader.old) (R.remaining reader.new) }
+        ensures even { IfOk result (λ more. more ≡ true → Pays self.old.reads self.new.reads 0 (R.remaining reader.old) (R.remaining reader.new)) }
     {
         if self.begin < self.end {
             return Ok(true);
@@ -102,6 +104,8 @@ impl Ahead {
         ensures weight { weight self.new ≤ weight self.old }
         ensures count { CountsOn (self.old.reads - self.new.reads) (R.reads reader.old) (R.reads reader.new) }
         ensures fewer { self.new.reads ≤ self.old.reads }
+        ensures paid { Pays self.old.reads self.new.reads 1 (R.remaining reader.old) (R.remaining reader.new) }
+        ensures even { IfOk result (λ b. IfSome b (λ _. Pays self.old.reads self.new.reads 0 (R.remaining reader.old) (R.remaining reader.new))) }
     {
         if !self.fill(reader)? {
             return Ok(None);

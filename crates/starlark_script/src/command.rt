@@ -1,6 +1,6 @@
 //! The lines of commands: words between single spaces, and numbers of one to ten decimal digits up to 4294967295.
 
-ghost use Rattle.std.specs.Prelude.{◌≡◌, ◌≤◌, ◌<◌, ℕ, ◌^◌, ◌+◌, ◌*◌, List, [], ◌∷◌, ◌++◌, Option, MatchOption, length};
+ghost use Rattle.std.specs.Prelude.{◌≡◌, ◌<◌, ◌+◌, ◌*◌, [], ◌∷◌, Option, MatchOption};
 ghost use Rattle.starlark_script.specs.Script.{bytes_of, command_of, number_of, same_bytes, with_one, with_two, words};
 
 /// What a line says. Parts count from 0.

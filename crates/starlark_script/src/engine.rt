@@ -1,10 +1,10 @@
 //! The run of a script.
 
-ghost use Rattle.std.specs.Prelude.{◌≡◌, ◌≤◌, ◌<◌, ◌^◌, ◌⊎◌, ℕ, ◌+◌, ◌-◌, List, [], ◌∷◌, ◌++◌, Bool, true, false, map, length, IfOk, IfErr, OnOk, OnErr, decimal, Option, codes, IsErrOf};
+ghost use Rattle.std.specs.Prelude.{◌≡◌, ◌≤◌, ◌^◌, ◌⊎◌, ℕ, ◌+◌, List, [], true, false, IfOk, IfErr, OnOk, OnErr};
 ghost use Rattle.std.specs.Io.KnownBytes.{Appends};
 ghost use Rattle.starlark_script.specs.Device.{AppendsFront, Breaks, CountsOn};
 ghost use Rattle.starlark_script.specs.Printed.{edit_line, outline_lines};
-ghost use Rattle.starlark_script.specs.Coming.{coming, weight};
+ghost use Rattle.starlark_script.specs.Coming.{ReadsFew};
 ghost use Rattle.starlark_script.specs.Engine.{Answers, HaveOutlines, Wrote, WroteFront, WroteSoFar};
 
 use crate::ahead::Ahead;
@@ -108,6 +108,7 @@ fn answer_all<R: Source, W: Sink>(
     ensures front { OnErr result (WroteFront parts.old.limit parts.old.dialect (R.remaining reader.old) (W.contents writer.old) (W.contents writer.new)) }
     ensures ended { IfOk result (λ e. e ≡ End.Whole → CountsOn 1 (R.ends reader.old) (R.ends reader.new)) }
     ensures budget { R.reads reader.new ≤ R.reads reader.old + 2 ^ 40 }
+    ensures few { ReadsFew (R.remaining reader.old) (R.remaining reader.new) (R.reads reader.old) (R.reads reader.new) }
     ensures read { IfErr result (λ f. f ≡ RunFault.Read → (R.has_failed reader.new ≡ true) ⊎ CountsOn (2 ^ 40) (R.reads reader.old) (R.reads reader.new)) }
     ensures last { IfErr result (λ f. f ≡ RunFault.Read → (R.ends reader.new ≡ R.ends reader.old) × (W.has_failed writer.new ≡ false) × (W.stalls writer.new ≡ W.stalls writer.old)) }
     ensures whole { IfErr result (λ f. f ≡ RunFault.Read → WroteSoFar parts.old.limit parts.old.dialect (R.remaining reader.old) (W.contents writer.old) (W.contents writer.new) (R.remaining reader.new)) }
@@ -159,6 +160,8 @@ pub fn run_with<R: Source, W: Sink>(
     // the script is whole only where a read gave no byte
     ensures ended { IfOk result (λ e. e ≡ End.Whole → CountsOn 1 (R.ends reader.old) (R.ends reader.new)) }
     ensures budget { R.reads reader.new ≤ R.reads reader.old + 2 ^ 40 }
+    // each read but the last took a byte: so the run gives up by itself in no script of fewer than 2^40 - 1 bytes
+    ensures few { ReadsFew (R.remaining reader.old) (R.remaining reader.new) (R.reads reader.old) (R.reads reader.new) }
     ensures read { IfErr result (λ f. f ≡ RunFault.Read → (R.has_failed reader.new ≡ true) ⊎ CountsOn (2 ^ 40) (R.reads reader.old) (R.reads reader.new)) }
     // nothing is read behind the end, and nothing is written behind a fault of the reader: each such call could fail
     ensures last { IfErr result (λ f. f ≡ RunFault.Read → (R.ends reader.new ≡ R.ends reader.old) × (W.has_failed writer.new ≡ false) × (W.stalls writer.new ≡ W.stalls writer.old)) }
@@ -195,6 +198,8 @@ pub fn run<R: Source, W: Sink>(
     // the script is whole only where a read gave no byte
     ensures ended { IfOk result (λ e. e ≡ End.Whole → CountsOn 1 (R.ends reader.old) (R.ends reader.new)) }
     ensures budget { R.reads reader.new ≤ R.reads reader.old + 2 ^ 40 }
+    // each read but the last took a byte: so the run gives up by itself in no script of fewer than 2^40 - 1 bytes
+    ensures few { ReadsFew (R.remaining reader.old) (R.remaining reader.new) (R.reads reader.old) (R.reads reader.new) }
     ensures read { IfErr result (λ f. f ≡ RunFault.Read → (R.has_failed reader.new ≡ true) ⊎ CountsOn (2 ^ 40) (R.reads reader.old) (R.reads reader.new)) }
     // nothing is read behind the end, and nothing is written behind a fault of the reader: each such call could fail
     ensures last { IfErr result (λ f. f ≡ RunFault.Read → (R.ends reader.new ≡ R.ends reader.old) × (W.has_failed writer.new ≡ false) × (W.stalls writer.new ≡ W.stalls writer.old)) }

@@ -1,10 +1,9 @@
 //! Commands with their bytes, read off a script.
 
-ghost use Rattle.std.specs.Prelude.{◌≡◌, ◌≢◌, ℕ, ◌+◌, ◌-◌, ◌<◌, ◌≤◌, ◌⊎◌, List, [], ◌∷◌, ◌++◌, Bool, true, false, length, take, drop, IfOk, IfErr, OnErr, OnOk, MatchOption, vec_len};
-ghost use Rattle.std.specs.Io.KnownBytes.{Consumes, IsAtEnd};
-ghost use Rattle.starlark_script.specs.Coming.{coming, weight};
+ghost use Rattle.std.specs.Prelude.{◌≡◌, ◌-◌, ◌<◌, ◌≤◌, ◌⊎◌, true, false, length, IfOk, IfErr, OnErr, OnOk};
+ghost use Rattle.starlark_script.specs.Coming.{Pays, coming, weight};
 ghost use Rattle.starlark_script.specs.Device.{CountsOn};
-ghost use Rattle.starlark_script.specs.Reading.{IsLine, LineFits, LineEnds, StopsInLine, line_goes, IsTaken, TextEnds, StopsBefore, IsSkipped, IsRequest, RequestEnds, StopsCut, asked_of, goes_on};
+ghost use Rattle.starlark_script.specs.Reading.{IsLine, LineFits, LineEnds, StopsInLine, line_goes, IsTaken, TextEnds, text_goes, StopsBefore, IsSkipped, IsRequest, RequestEnds, StopsCut, asked_of, goes_on};
 
 use crate::ahead::Ahead;
 use crate::command::{Head, command};
@@ -80,6 +79,8 @@ fn next_line<R: Source>(
     ensures lighter { IfOk result (λ l. line_goes l ≡ true → weight ahead.new < weight ahead.old) }
     ensures count { CountsOn (ahead.old.reads - ahead.new.reads) (R.reads reader.old) (R.reads reader.new) }
     ensures fewer { ahead.new.reads ≤ ahead.old.reads }
+    ensures paid { Pays ahead.old.reads ahead.new.reads 1 (R.remaining reader.old) (R.remaining reader.new) }
+    ensures even { IfOk result (λ l. line_goes l ≡ true → Pays ahead.old.reads ahead.new.reads 0 (R.remaining reader.old) (R.remaining reader.new)) }
 {
     for i in 0..64 {
         match ahead.next(reader)? {
@@ -120,6 +121,8 @@ fn skip<R: Source>(ahead: &mut Ahead, reader: &mut R, count: usize) -> Result<bo
     ensures lighter { weight ahead.new ≤ weight ahead.old }
     ensures count { CountsOn (ahead.old.reads - ahead.new.reads) (R.reads reader.old) (R.reads reader.new) }
     ensures fewer { ahead.new.reads ≤ ahead.old.reads }
+    ensures paid { Pays ahead.old.reads ahead.new.reads 1 (R.remaining reader.old) (R.remaining reader.new) }
+    ensures even { IfOk result (λ b. b ≡ true → Pays ahead.old.reads ahead.new.reads 0 (R.remaining reader.old) (R.remaining reader.new)) }
 {
     for _i in 0..count {
         match ahead.next(reader)? {
@@ -148,6 +151,8 @@ fn take_text<R: Source>(
     ensures lighter { weight ahead.new ≤ weight ahead.old }
     ensures count { CountsOn (ahead.old.reads - ahead.new.reads) (R.reads reader.old) (R.reads reader.new) }
     ensures fewer { ahead.new.reads ≤ ahead.old.reads }
+    ensures paid { Pays ahead.old.reads ahead.new.reads 1 (R.remaining reader.old) (R.remaining reader.new) }
+    ensures even { IfOk result (λ t. text_goes t ≡ true → Pays ahead.old.reads ahead.new.reads 0 (R.remaining reader.old) (R.remaining reader.new)) }
 {
     let mut text = Vec::new(alloc);
     for i in 0..count {
@@ -212,6 +217,8 @@ pub fn next_request<R: Source>(
     ensures lighter { IfOk result (λ q. goes_on q ≡ true → weight ahead.new < weight ahead.old) }
     ensures count { CountsOn (ahead.old.reads - ahead.new.reads) (R.reads reader.old) (R.reads reader.new) }
     ensures fewer { ahead.new.reads ≤ ahead.old.reads }
+    ensures paid { Pays ahead.old.reads ahead.new.reads 1 (R.remaining reader.old) (R.remaining reader.new) }
+    ensures even { IfOk result (λ q. goes_on q ≡ true → Pays ahead.old.reads ahead.new.reads 0 (R.remaining reader.old) (R.remaining reader.new)) }
 {
     match next_line(ahead, reader, line)? {
         Line::End => Ok(Request::Whole),

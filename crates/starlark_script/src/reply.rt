@@ -1,6 +1,6 @@
 //! The lines that answer commands, put together before they are written.
 
-ghost use Rattle.std.specs.Prelude.{◌≡◌, ◌≤◌, ◌+◌, ◌^◌, ◌<◌, [], ◌++◌, codes, decimal, false, length};
+ghost use Rattle.std.specs.Prelude.{◌≡◌, ◌≤◌, ◌+◌, [], ◌++◌, codes, decimal, false, length};
 ghost use Rattle.starlark_place.specs.Shown.{shown_pos, shown_end, shown_span};
 ghost use Rattle.starlark_script.specs.Printed.{kind_text, refusal_line, item_line, count_line};
 

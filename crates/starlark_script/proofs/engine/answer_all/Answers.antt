@@ -15,6 +15,7 @@ commands-init g c = record {
   still = first_of (search rules, grind (arith, common_steps));
   fewer = first_of (search rules, grind (arith, common_steps));
   count = first_of (search rules, grind (arith, common_steps));
+  paid = first_of (search rules, grind (arith, common_steps));
   ends = first_of (search rules, grind (arith, common_steps));
 }
 
@@ -63,5 +64,6 @@ commands-preserved g c =
       still = first_of (search rules, grind (arith, common_steps));
       fewer = first_of (search rules, grind (arith, common_steps));
       count = first_of (search rules, grind (arith, common_steps));
+      paid = first_of (search rules, grind (arith, common_steps));
       ends = first_of (search rules, grind (arith, common_steps));
     }

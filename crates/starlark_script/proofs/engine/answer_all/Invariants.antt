@@ -1,5 +1,5 @@
 use Rattle.std.proofs.Common.{◌≡◌, ◌≤◌, ◌-◌, ◌^◌, false}
-use Rattle.starlark_script.specs.Coming.{coming, weight}
+use Rattle.starlark_script.specs.Coming.{Pays, coming, weight}
 use Rattle.starlark_script.specs.Device.{CountsOn}
 use Rattle.starlark_script.specs.Engine.{HaveOutlines}
 use Rattle.starlark_script.proofs.Runs.{Going}
@@ -17,6 +17,7 @@ invariant-commands g l = record {
   fewer : l.ahead.reads ≤ 2 ^ 40;
   ends : g.R.Source.ends l.reader ≡ g.R.Source.ends l.fn.reader;
   count : CountsOn (2 ^ 40 - l.ahead.reads) (g.R.Source.reads l.fn.reader) (g.R.Source.reads l.reader);
+  paid : Pays (2 ^ 40) l.ahead.reads 0 (g.R.Read.remaining l.fn.reader) (g.R.Read.remaining l.reader);
 }
 
 abbrev pub decreases-commands : goal.decreases-commands

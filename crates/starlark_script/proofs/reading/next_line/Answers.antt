@@ -4,6 +4,7 @@ use Rattle.std.proofs.lemmas.List.{length-take, take_more_set}
 use Rattle.std.proofs.lemmas.Result.{err_from_is_err_and}
 use Rattle.starlark_script.proofs.Lines.{more_set_at}
 use Rattle.starlark_script.proofs.Known.{consumes_more}
+use Rattle.starlark_script.proofs.Paid.{pays_more}
 use Rattle.starlark_script.proofs.Taking.{line_end, line_cut, line_of, line_long, stops_in_line}
 use Rattle.starlark_script.proofs.reading.next_line.Goals as goal
 
@@ -29,6 +30,7 @@ loop-i-preserved g c =
       lighter = first_of (search rules, grind (arith, common_steps));
       count = first_of (search rules, grind (arith, common_steps));
       fewer = first_of (search rules, grind (arith, common_steps));
+      paid = pays_more _ _ _ 0 _ _ _ c.loop-i.invariant.paid (rw c.in-Some.is at c.in_ok-next.ensures.even);
       ends = first_of (search rules, grind (arith, common_steps));
     }
 

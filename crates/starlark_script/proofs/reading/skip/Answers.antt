@@ -1,6 +1,7 @@
 use Rattle.std.proofs.Common.{arith, rules, ◌∷◌, ◌++◌, [], length-append}
 use Rattle.std.proofs.lemmas.Grind.{common_steps}
 use Rattle.starlark_script.proofs.Known.{consumes_more}
+use Rattle.starlark_script.proofs.Paid.{pays_more}
 use Rattle.starlark_script.proofs.reading.skip.Goals as goal
 
 pub loop-i-preserved : goal.loop-i-preserved
@@ -13,5 +14,6 @@ loop-i-preserved g c =
       lighter = first_of (search rules, grind (arith, common_steps));
       count = first_of (search rules, grind (arith, common_steps));
       fewer = first_of (search rules, grind (arith, common_steps));
+      paid = pays_more _ _ _ 0 _ _ _ c.loop-i.invariant.paid (rw c.in-Some.is at c.in_ok-next.ensures.even);
       ends = first_of (search rules, grind (arith, common_steps));
     }

@@ -1,6 +1,6 @@
 use Rattle.std.proofs.Common.{◌≡◌, ◌≤◌, ◌-◌, ℕ, List, false, length}
 use Rattle.std.specs.Io.KnownBytes.{Consumes}
-use Rattle.starlark_script.specs.Coming.{coming, weight}
+use Rattle.starlark_script.specs.Coming.{Pays, coming, weight}
 use Rattle.starlark_script.specs.Device.{CountsOn}
 use Rattle.starlark_script.proofs.reading.skip.Given as goal
 
@@ -11,5 +11,6 @@ invariant-loop-i g l = record {
   lighter : weight l.ahead ≤ weight l.fn.ahead;
   count : CountsOn (l.fn.ahead.reads - l.ahead.reads) (g.R.Source.reads l.fn.reader) (g.R.Source.reads l.reader);
   fewer : l.ahead.reads ≤ l.fn.ahead.reads;
+  paid : Pays l.fn.ahead.reads l.ahead.reads 0 (g.R.Read.remaining l.fn.reader) (g.R.Read.remaining l.reader);
   ends : g.R.Source.ends l.reader ≡ g.R.Source.ends l.fn.reader;
 }
