@@ -1,5 +1,5 @@
 -- The outline of texts that stand one behind another is that of the joined text.
-use Rattle.std.proofs.Common.{◌≡◌, ◌≤◌, ◌<◌, ◌∙◌, ◌⊎◌, ℕ, ◌+◌, List, [], ◌∷◌, ◌++◌, length, map, Bool, true, false, Some, None, refl, ap, sym, arith, inl, inr, subst}
+use Rattle.std.proofs.Common.{◌≡◌, ◌<◌, ◌∙◌, ℕ, ◌+◌, List, [], ◌∷◌, ◌++◌, length, map, true, false, Some, None, refl, ap, sym, arith, inl, inr, subst}
 use Rattle.std.specs.List.{All}
 use Rattle.std.proofs.lemmas.List.{map-append}
 use Rattle.std.proofs.lemmas.List.Elements.{All-head, All-tail}
@@ -21,7 +21,7 @@ use Rattle.starlark_joining.specs.Joined.{behind}
 use Rattle.starlark_joining.specs.Kept.{Moved}
 use Rattle.starlark_joining.specs.Trees.{AreJoined}
 use Rattle.starlark_parts.specs.Kept.{joined}
-use Rattle.starlark_parts.specs.Outlines.{AreItems, AreOutlines, IsOutline, no_texts, and_text, beginning, item_down, items_down, place_down}
+use Rattle.starlark_parts.specs.Outlines.{AreOutlines, IsOutline, no_texts, and_text, beginning, item_down, items_down, place_down}
 use Rattle.starlark_parts.specs.Tops.{all_top, top_level, word_of}
 use Rattle.starlark_parts.specs.declared.word.OutlineItem.{OutlineItem}
 use Rattle.starlark_parts.proofs.JoinedPlaces.{column_behind, line_behind, resolved_before}
@@ -87,6 +87,15 @@ no_widths = record {
   each = λ x. ((λ e. absurd (let f : false ≡ true = e in cc)), (λ p. absurd (none_open x p.0 p.1)));
 }
 
+-- the empty text is in the language
+pub empty_language : (dialect : Dialect) → Language dialect [] (block_of t.no_statements 0)
+empty_language dialect = record {
+  lexed = record { items = item 0 newline 0 ∷ []; fault = None };
+  lexes = is_over start [] _ (last_line start [] [] refl refl no_widths);
+  no_fault = refl;
+  program = record { derives = whole (blank nothing); clean = tt; sound = refl };
+}
+
 module _ (law : JoinedTrees) (nested : NestedPlaces) (dialect : Dialect) where
   module _ (a b : List ℕ) (xs ys : List OutlineItem) (closed : IsClosed a) (h : IsOutline dialect a xs) (k : IsOutline dialect b ys) where
     both : AreJoined dialect a b h.tree k.tree
@@ -136,16 +145,8 @@ module _ (law : JoinedTrees) (nested : NestedPlaces) (dialect : Dialect) where
       };
     }
 
-  empty_language : Language dialect [] (block_of t.no_statements 0)
-  empty_language = record {
-    lexed = record { items = item 0 newline 0 ∷ []; fault = None };
-    lexes = is_over start [] _ (last_line start [] [] refl refl no_widths);
-    no_fault = refl;
-    program = record { derives = whole (blank nothing); clean = tt; sound = refl };
-  }
-
   pub no_outline : IsOutline dialect [] []
-  no_outline = record { tree = block_of t.no_statements 0; language = empty_language; all = record { words = refl; begins = refl } }
+  no_outline = record { tree = block_of t.no_statements 0; language = empty_language dialect; all = record { words = refl; begins = refl } }
 
   joined_from : (n : ℕ) (texts : List (List ℕ)) (items : List OutlineItem) → All IsClosed texts → AreOutlines dialect n texts items
       → (xs : List OutlineItem) × IsOutline dialect (joined texts) xs × (items ≡ items_down n xs)

@@ -6,6 +6,8 @@ pub mod Held
 pub mod JoinedPlaces
 pub mod JoinedTrees
 pub mod JoinedOutlines
+pub mod Bare
+pub mod JoinedTops
 pub mod OneOutline
 pub mod JoinedStatements
 pub mod Keeping

@@ -1,5 +1,6 @@
 pub mod Kept
 pub mod Tops
+pub mod Bare
 pub mod Outlines
 pub mod Edits
 pub mod Spent

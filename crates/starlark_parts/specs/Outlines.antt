@@ -6,6 +6,7 @@ use Rattle.starlark_place.specs.declared.resolved.ResolvedPos.{ResolvedPos}
 use Rattle.starlark_lexer.specs.declared.dialect.Dialect.{Dialect}
 use Rattle.starlark_ast.specs.Tree.{Statement, statement_place}
 use Rattle.starlark_grammar.specs.Language.{Language}
+use Rattle.starlark_parts.specs.Bare.{bare}
 use Rattle.starlark_parts.specs.Tops.{top_level, word_of}
 use Rattle.starlark_parts.specs.declared.word.OutlineItem.{OutlineItem}
 
@@ -75,3 +76,9 @@ pub record ShowOutline (dialect : Dialect) (text : List ℕ) (xs : List Placed) 
   pub outline : IsOutline dialect text items
   pub words : map (λ x. word_of x.statement) xs ≡ map (λ y. Some y.word) items
   pub begins : map (λ x. x.begin) xs ≡ map (λ y. y.begin) items
+
+-- The statements are, but for their places, those at the top of a tree of the text, in order.
+pub record AreTops (dialect : Dialect) (text : List ℕ) (xs : List Placed) : Type 0 where
+  pub tree : Statement
+  pub language : Language dialect text tree
+  pub same : map (λ x. bare x.statement) xs ≡ map bare (top_level tree)

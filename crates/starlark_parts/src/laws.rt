@@ -8,7 +8,7 @@ ghost use Rattle.starlark_ast.specs.Tree.{Statement};
 ghost use Rattle.starlark_grammar.specs.Language.{Language};
 ghost use Rattle.starlark_parts.specs.Flat.{AreWorded, IsFlat};
 ghost use Rattle.starlark_parts.specs.Kept.{joined};
-ghost use Rattle.starlark_parts.specs.Outlines.{AreOutlines, IsOutline};
+ghost use Rattle.starlark_parts.specs.Outlines.{AreAllStatements, AreOutlines, AreTops, IsOutline, Placed};
 ghost use Rattle.starlark_parts.specs.declared.word.OutlineItem.{OutlineItem};
 
 use starlark_grammar::text_laws::{nested_places, one_tree};
@@ -28,6 +28,13 @@ pub fn joined_outline()
 {
     joined_trees();
     nested_places();
+}
+
+/// The statements at the top of such texts are, but for their places, those at the top of the tree of the joined text.
+pub fn joined_statements()
+    ensures { (dialect : Dialect) (texts : List (List ℕ)) (xs : List Placed) → All IsClosed texts → AreAllStatements dialect 0 texts xs → AreTops dialect (joined texts) xs }
+{
+    joined_trees();
 }
 
 /// A text has one outline at most.

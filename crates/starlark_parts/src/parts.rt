@@ -4,12 +4,12 @@ ghost use Rattle.std.specs.Prelude.{◌≡◌, ◌<◌, ◌≤◌, [], IfOk, Mat
 ghost use Rattle.starlark_parts.specs.Edits.{Answers};
 ghost use Rattle.starlark_parts.specs.Kept.{inserts, joined, moves, removes, replaces};
 ghost use Rattle.starlark_parts.specs.Left.{statements_left};
-ghost use Rattle.starlark_parts.specs.Outlines.{AreAllStatements, IsOutline, ShowOutline};
+ghost use Rattle.starlark_parts.specs.Outlines.{AreAllStatements, AreTops, IsOutline, ShowOutline};
 ghost use Rattle.starlark_parts.specs.Spent.{Spends, nothing_read};
 
 use crate::fault::PartFault;
 use crate::items::Items;
-use crate::laws::joined_outline;
+use crate::laws::{joined_outline, joined_statements};
 use crate::list;
 use crate::part::{Part, read_outline, read_part};
 use crate::statements::Statements;
@@ -173,12 +173,15 @@ impl Parts {
     }
 
     /// The statements at the top of all parts, in order, with their beginnings in the joined text. They are those of each
-    /// part's own tree, with the places of that tree. No memory is taken, here and on the way.
+    /// part's own tree, with the places of that tree; but for places they are those of the joined text's. No memory is
+    /// taken, here and on the way.
     pub fn statements(&self) -> Statements<'_>
         ensures parts { AreAllStatements self.now.dialect 0 self.now.texts (statements_left result) }
         ensures joined { ShowOutline self.now.dialect (joined self.now.texts) (statements_left result) }
+        ensures tops { AreTops self.now.dialect (joined self.now.texts) (statements_left result) }
     {
         joined_outline();
+        joined_statements();
         Statements::of(self.parts.as_slice())
     }
 
@@ -219,7 +222,6 @@ impl Parts {
         Ok(text)
     }
 
-    /// Lets all parts and their memory go. What it is called on need not be let go by the caller, whose crate would have
-    /// to prove that anew for all types of trees.
+    /// Lets all parts and their memory go, in the crate that proves how.
     pub fn release(self) {}
 }
