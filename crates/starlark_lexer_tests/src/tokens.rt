@@ -1,6 +1,8 @@
-//! What tokens show of themselves to a reader of code. What they print is in the answers of `starlark_dump`.
+//! What tokens show of themselves to a reader of code, and what the lexer's faults print. What tokens print is in the answers
+//! of `starlark_dump`.
 
-use starlark_lexer::token::{FStringQuote, Token, TokenInt};
+use crate::common::prints;
+use starlark_lexer::token::{FStringQuote, LexemeError, Token, TokenInt};
 use std::test::Fail;
 
 #[test]
@@ -30,6 +32,45 @@ fn shown(rt: HostRuntime) -> Result<(), Fail> {
         ),
     ] {
         assert_eq!(rt; format!(in alloc; "{token:?}")?.as_str(), text);
+    }
+    Ok(())
+}
+
+/// The faults, and what each prints.
+static FAULTS: [(LexemeError, &str); 12] = [
+    (LexemeError::Indentation, "incorrect indentation"),
+    (LexemeError::InvalidInput, "invalid input"),
+    (LexemeError::InvalidTab, "tabs are not allowed"),
+    (
+        LexemeError::UnfinishedStringLiteral,
+        "unfinished string literal",
+    ),
+    (
+        LexemeError::InvalidEscapeSequence,
+        "invalid string escape sequence",
+    ),
+    (
+        LexemeError::EmptyEscapeSequence,
+        "missing string escape sequence",
+    ),
+    (LexemeError::ReservedKeyword, "cannot use reserved keyword"),
+    (LexemeError::StartsZero, "integer cannot have leading 0"),
+    (LexemeError::IntParse, "cannot parse integer"),
+    (LexemeError::CannotParse, "cannot parse"),
+    (
+        LexemeError::CommentSpanComputedIncorrectly,
+        "comment span is computed incorrectly",
+    ),
+    (
+        LexemeError::UnfinishedFStringExpression,
+        "unfinished f-string expression",
+    ),
+];
+
+#[test]
+fn faults(rt: HostRuntime) -> Result<(), Fail> {
+    for (fault, want) in &FAULTS {
+        prints(&rt, rt.alloc(), fault, want)?;
     }
     Ok(())
 }

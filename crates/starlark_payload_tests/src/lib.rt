@@ -6,7 +6,11 @@ mod common;
 #[cfg(test)]
 mod expressions;
 #[cfg(test)]
+mod forms;
+#[cfg(test)]
 mod maps;
+#[cfg(test)]
+mod parsed;
 #[cfg(test)]
 mod parts;
 #[cfg(test)]

@@ -1,9 +1,10 @@
 //! A text with its tree, and what a refusal prints.
 
-use crate::common::{prints, span};
+use crate::common::{parsed, prints, span};
 use starlark_ast::ast::StmtP;
 use starlark_lexer::dialect::Dialect;
 use starlark_parser::fault::{EvalException, ParserErrorKind};
+use starlark_parser::fields::AstModuleFields;
 use starlark_parser::module::AstModule;
 use starlark_place::codemap::CodeMapId;
 use std::alloc::{AllocError, Global};
@@ -89,5 +90,19 @@ fn comments(rt: HostRuntime) -> Result<(), Fail> {
     assert_eq!(rt; comments[0], span(0, 3));
     assert_eq!(rt; comments[1], span(4, 7));
     assert_eq!(rt; comments[2], span(14, 17));
+    Ok(())
+}
+
+/// A stretch in one line, and one over two.
+#[test]
+fn file_spans(rt: HostRuntime) -> Result<(), Fail> {
+    let alloc = rt.alloc();
+    let module = parsed(alloc, "x = 1\nf(x)\n")?;
+    let within = span(6, 10);
+    assert!(&rt; module.codemap().holds(within));
+    prints(&rt, alloc, &module.file_span(within)?, "t:2:1-5")?;
+    let over = span(4, 7);
+    assert!(&rt; module.codemap().holds(over));
+    prints(&rt, alloc, &module.file_span(over)?, "t:1:5-2:2")?;
     Ok(())
 }

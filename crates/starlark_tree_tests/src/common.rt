@@ -27,6 +27,28 @@ pub(crate) fn prints(
     Ok(())
 }
 
+/// Sees what a tree prints, and lets it go.
+pub(crate) fn printed<T: Display + Drop>(
+    rt: &impl Abort,
+    alloc: Global,
+    tree: T,
+    want: &str,
+) -> Result<(), AllocError> {
+    prints(rt, alloc, &tree, want)
+}
+
+/// Each of a table prints what stands beside it.
+pub(crate) fn each_prints<T: Display>(
+    rt: &impl Abort,
+    alloc: Global,
+    table: &[(T, &str)],
+) -> Result<(), AllocError> {
+    for (x, want) in table {
+        prints(rt, alloc, x, want)?;
+    }
+    Ok(())
+}
+
 /// Both show the same, places and texts among it.
 pub(crate) fn same(
     rt: &impl Abort,
@@ -44,4 +66,14 @@ pub(crate) fn span(begin: u32, end: u32) -> Span
     ensures { result ≡ extent begin end }
 {
     Span::new(Pos::new(begin), Pos::new(end))
+}
+
+/// A value in a box.
+pub(crate) fn boxed<T: Drop>(alloc: Global, x: T) -> Result<Box<T>, AllocError> {
+    Ok(Box::new(alloc, x)?)
+}
+
+/// A list of two.
+pub(crate) fn both<T: Drop>(alloc: Global, x: T, y: T) -> Result<Vec<T>, AllocError> {
+    Ok(vec![in alloc; x, y]?)
 }
