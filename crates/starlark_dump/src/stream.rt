@@ -84,7 +84,7 @@ pub(crate) fn run_bad<W: Write>(writer: &mut W) -> Result<End, RunFault> {
 ///
 /// - `Ok(End::Whole)`: the stream is at its end before a query.
 /// - `Ok(End::Bad)`: it goes on with what is no query, or ends before all bytes of a text. The last answer is `bad`.
-/// - `Err(RunFault::Read)`: a read failed, or 2 to the 64th queries were answered.
+/// - `Err(RunFault::Read)`: a read failed, or as many queries were answered as a `u64` counts.
 /// - `Err(RunFault::Write)`: a write failed, or took 0 bytes of some.
 /// - `Err(RunFault::Memory)`: there was no memory for the buffer or a line.
 ///
