@@ -11,7 +11,7 @@ ghost use Rattle.starlark_order.specs.Ordered.{AreOrdered, BeginPlainly, HaveByt
 use starlark_lexer::laws::in_order;
 
 /// Each item but a line end, an `Indent` and a `Dedent` has bytes. The first of them is an ASCII byte,
-/// texts, braces and ends of f-strings aside.
+/// texts, braces, `!` and ends of f-strings aside.
 pub fn firm_tokens()
     ensures bytes { (text : List ℕ) (l : Lexed) → Lex start text l → HaveBytes l.items }
     ensures first { (text : List ℕ) (l : Lexed) → Lex start text l → BeginPlainly text l.items }
