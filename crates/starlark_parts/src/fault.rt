@@ -5,7 +5,8 @@ use starlark_place::resolved::ResolvedFileSpan;
 use std::alloc::{AllocError, AllocFailed};
 use thiserror::Error;
 
-/// Why an edit is refused: the first reason in this order. The parts are then as they were.
+/// Why an edit is refused: the first reason in this order, but that want of memory may stand in the place of `Parse` and
+/// `Open`. The parts are then as they were.
 #[derive(Debug, Drop, Error)]
 pub enum PartFault {
     /// There is no such index.
