@@ -75,5 +75,8 @@ pub(crate) fn boxed<T: Drop>(alloc: Global, x: T) -> Result<Box<T>, AllocError> 
 
 /// A list of two.
 pub(crate) fn both<T: Drop>(alloc: Global, x: T, y: T) -> Result<Vec<T>, AllocError> {
-    Ok(vec![in alloc; x, y]?)
+    let mut xs = Vec::new(alloc);
+    xs.push(x)?;
+    xs.push(y)?;
+    Ok(xs)
 }
