@@ -1,17 +1,16 @@
-//! Payload maps of every form of a tree, by itself and at its place: each is Ok, prints what the tree prints, and calls its
-//! function once for each payload. A row is a small text with the form and the number of payloads. Trees are forgotten in the
-//! end: how they are let go is proved anew in each crate that does so.
+//! Payload maps of every form of a statement, an expression, a target, a parameter and a clause, and of arguments in calls:
+//! each is Ok, prints what the tree prints, and calls its function once for each payload. A row is a small text with the form
+//! and the number of payloads. Trees are forgotten in the end: how they are let go is proved anew in each crate that does so.
 
 use crate::common::{Counter, Numbered};
-use crate::parsed::{argument, clause, expression, parameter, printed, target, tree};
+use crate::parsed::{clause, expression, parameter, printed, target, tree};
 use starlark_ast::ast::{
-    ArgumentP, AssignTargetP, AstArgument, AstArgumentP, AstAssignTarget, AstAssignTargetP,
-    AstExpr, AstExprP, AstParameter, AstParameterP, AstStmt, AstStmtP, Clause, ClauseP, ExprP,
-    ParameterP, StmtP,
+    AssignTargetP, AstAssignTarget, AstAssignTargetP, AstExpr, AstExprP, AstParameter,
+    AstParameterP, AstStmt, AstStmtP, Clause, ClauseP, ExprP, ParameterP, StmtP,
 };
 use starlark_ast::making::ToAst;
 use starlark_payload::payload_map::IntoMapPayload;
-use starlark_payload::placed_maps::{ArgumentPExt, AssignTargetPExt, ExprPExt, ParameterPExt};
+use starlark_payload::placed_maps::{AssignTargetPExt, ExprPExt, ParameterPExt};
 use starlark_payload::statement_maps::StmtPExt;
 use std::alloc::{AllocError, Global};
 use std::process::Abort;
@@ -132,9 +131,6 @@ static PARAMETERS: [(&str, u8); 9] = [
     ("def a(**b: c): pass", 3),
 ];
 
-/// Calls, with the payloads of the last argument.
-static ARGUMENTS: [(&str, u8); 4] = [("a(b)", 1), ("a(b = c)", 1), ("a(*b)", 1), ("a(**b)", 1)];
-
 /// Comprehensions, with the payloads of the last clause.
 static CLAUSES: [(&str, u8); 2] = [("[a for b in c for d in e]", 2), ("[a for b in c if d]", 1)];
 
@@ -183,18 +179,6 @@ fn map_of_parameter(alloc: Global, x: AstParameter) -> Mapped {
 fn map_of_placed_parameter(alloc: Global, x: AstParameter) -> Mapped {
     let mut counter = Counter::new();
     let x: AstParameterP<Numbered> = ParameterPExt::into_map_payload(x, alloc, &mut counter)?;
-    Ok((printed(alloc, x.node)?, counter.next))
-}
-
-fn map_of_argument(alloc: Global, x: AstArgument) -> Mapped {
-    let mut counter = Counter::new();
-    let x: ArgumentP<Numbered> = x.node.into_map_payload(alloc, &mut counter)?;
-    Ok((printed(alloc, x)?, counter.next))
-}
-
-fn map_of_placed_argument(alloc: Global, x: AstArgument) -> Mapped {
-    let mut counter = Counter::new();
-    let x: AstArgumentP<Numbered> = ArgumentPExt::into_map_payload(x, alloc, &mut counter)?;
     Ok((printed(alloc, x.node)?, counter.next))
 }
 
@@ -268,18 +252,6 @@ fn parameters(rt: HostRuntime) -> Result<(), Fail> {
     let alone = map_of_parameter(alloc, ParameterP::NoArgs.ast(0, 1));
     let placed = map_of_placed_parameter(alloc, ParameterP::NoArgs.ast(0, 1));
     agree(&rt, "*", want, alone, placed);
-    Ok(())
-}
-
-#[test]
-fn arguments(rt: HostRuntime) -> Result<(), Fail> {
-    let alloc = rt.alloc();
-    for (text, payloads) in &ARGUMENTS {
-        let want = (printed(alloc, argument(alloc, text)?.node)?, *payloads);
-        let alone = map_of_argument(alloc, argument(alloc, text)?);
-        let placed = map_of_placed_argument(alloc, argument(alloc, text)?);
-        agree(&rt, text, want, alone, placed);
-    }
     Ok(())
 }
 

@@ -2,8 +2,7 @@
 //! anew in each crate that does so.
 
 use starlark_ast::ast::{
-    AssignP, AstArgument, AstAssignTarget, AstExpr, AstParameter, AstStmt, CallArgsP, Clause, DefP,
-    ExprP, StmtP,
+    AssignP, AstAssignTarget, AstExpr, AstParameter, AstStmt, Clause, DefP, ExprP, StmtP,
 };
 use starlark_lexer::dialect::Dialect;
 use starlark_parser::fields::AstModuleFields;
@@ -90,18 +89,6 @@ pub(crate) fn parameter(alloc: Global, text: &str) -> Result<AstParameter, Fail>
             mem::forget(return_type);
             mem::forget(body);
             last(text, params)
-        }
-        other => Err(unlike(text, other)),
-    }
-}
-
-/// The last argument of the call that a text is.
-pub(crate) fn argument(alloc: Global, text: &str) -> Result<AstArgument, Fail> {
-    let node = expression(alloc, text)?.node;
-    match node {
-        ExprP::Call(called, CallArgsP { args }) => {
-            mem::forget(called);
-            last(text, args)
         }
         other => Err(unlike(text, other)),
     }
