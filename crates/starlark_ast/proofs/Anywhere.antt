@@ -1,10 +1,9 @@
 -- What is printed, and how large it is, are the same at each place.
-use Rattle.std.proofs.Common.{ℕ, ◌≡◌, sym, ap, ◌∙◌, refl, List, Option, Some, None}
+use Rattle.std.proofs.Common.{ℕ, ◌≡◌, sym, ap, ◌∙◌, refl, List}
 use Rattle.starlark_place.specs.Place.{Extent}
 use Rattle.starlark_ast.specs.Printing.{expr_text, member_text}
-use Rattle.starlark_ast.specs.Tree as tree
 use Rattle.starlark_ast.specs.Tree.{Expr, Member}
-use Rattle.starlark_ast.specs.View.{argument_view, expr_view, expr_at, literal_view, parameter_view, target_view}
+use Rattle.starlark_ast.specs.View.{argument_view, expr_view, literal_view, parameter_view, target_view}
 use Rattle.starlark_ast.specs.Views.{expr_view-Tuple, expr_view-Dot, expr_view-Call, expr_view-Index, expr_view-Index2, expr_view-Slice, expr_view-Identifier, expr_view-Lambda, expr_view-Literal, expr_view-Not, expr_view-Minus, expr_view-Plus, expr_view-BitNot, expr_view-Op, expr_view-If, expr_view-List, expr_view-Dict, expr_view-ListComprehension, expr_view-DictComprehension, expr_view-FString, argument_view-Positional, argument_view-Named, argument_view-Args, argument_view-KwArgs, parameter_view-Slash, parameter_view-Normal, parameter_view-NoArgs, parameter_view-Args, parameter_view-KwArgs, target_view-Tuple, target_view-Index, target_view-Dot, target_view-Identifier, view-fstring, view-lambda}
 use Rattle.starlark_ast.specs.declared.ast.ArgumentP.{ArgumentP, ArgumentP-F, out-ArgumentP, roll-ArgumentP, roll-out-ArgumentP}
 use Rattle.starlark_ast.specs.declared.ast.AssignTargetP.{AssignTargetP, AssignTargetP-F, out-AssignTargetP, roll-AssignTargetP, roll-out-AssignTargetP}

@@ -1,5 +1,4 @@
 -- How large a statement is; what is printed of statements, one behind the other.
-use lib.Utf8.{scalars, encode, encodes}
 use Rattle.std.proofs.Common.{ℕ, zero, suc, ◌+◌, ◌<◌, ◌≤◌, ◌≡◌, true, sym, ap, ◌∙◌, refl, List, [], ◌∷◌, ◌++◌, Option, length, take, drop, take-append-drop, get_or, fold, codes, arith}
 use Rattle.std.proofs.lemmas.List.{take_more}
 use Rattle.std.proofs.lemmas.List.Sums.{fold-append}
@@ -57,11 +56,6 @@ results_same (t.typed x s) = refl
 abbrev pub symbol_separator : Symbols → List ℕ
 symbol_separator t.no_symbols = []
 symbol_separator (t.add_symbol ss x c) = codes ", "
-
-pub symbol_separator_is_text : (ss : Symbols) {sep : List ℕ} → sep ≡ symbol_separator ss → (x : List ℕ) × ((scalars x ≡ true) × (encodes x ≡ sep))
-unfolding encode
-symbol_separator_is_text t.no_symbols e = ([], (refl, sym e))
-symbol_separator_is_text (t.add_symbol ss x c) e = (44 ∷ 32 ∷ [], (refl, sym e))
 
 one_symbol_more : (ss : Symbols) (x : Symbol) (c : Option Extent) → symbols_text ss ++ symbol_separator ss ++ symbol_text x ≡ symbols_text (t.add_symbol ss x c)
 one_symbol_more t.no_symbols x c = refl

@@ -1,5 +1,5 @@
 -- How large an expression is, and what stands in it: more than all parts together.
-use Rattle.std.proofs.Common.{ℕ, suc, ◌+◌}
+use Rattle.std.proofs.Common.{ℕ, ◌+◌}
 use Rattle.starlark_ast.specs.Tree as t
 use Rattle.starlark_ast.specs.Tree.{Expr, Member, Members, Bound, Annotation, Subscript, Clause, Clauses}
 

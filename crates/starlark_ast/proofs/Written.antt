@@ -1,6 +1,6 @@
 -- What is written, one behind the other; texts of lists.
 use lib.Utf8.{scalars, encode, encodes}
-use Rattle.std.proofs.Common.{ℕ, suc, ◌+◌, ◌<◌, ◌≤◌, ◌≡◌, Bool, true, cond, sym, ap, ◌∙◌, refl, List, [], ◌∷◌, ◌++◌, length, take, drop, take-append-drop, append_assoc, get_or, fold, codes, arith}
+use Rattle.std.proofs.Common.{ℕ, suc, ◌+◌, ◌<◌, ◌≤◌, ◌≡◌, true, cond, sym, ap, ◌∙◌, refl, List, [], ◌∷◌, ◌++◌, length, take, drop, take-append-drop, append_assoc, get_or, fold, codes, arith}
 use Rattle.std.proofs.Math.Seq.{take-length}
 use Rattle.std.proofs.Output.{has_written_append, has_written_of_eq, writes_in_calls_nil}
 use Rattle.std.proofs.lemmas.Bool.{ne_eqb}
@@ -9,7 +9,7 @@ use Rattle.std.proofs.lemmas.List.Sums.{fold-append}
 use Rattle.std.specs.Fmt.{HasWritten, IsPlainFormatter}
 use Rattle.std.specs.declared.fmt.Formatter.{Formatter}
 use Rattle.starlark_place.specs.Place.{Extent}
-use Rattle.starlark_ast.specs.Printing.{annotation_text, bound_text, default_text, stars_text, step_text, members_text, member_text, lone_comma, clauses_text, clause_text}
+use Rattle.starlark_ast.specs.Printing.{annotation_text, default_text, stars_text, members_text, member_text, lone_comma, clauses_text, clause_text}
 use Rattle.starlark_ast.specs.Shown.{behind, tuple_end, type_behind}
 use Rattle.starlark_ast.specs.Tree as t
 use Rattle.starlark_ast.specs.Tree.{Annotation, Bound, Stars, Member, Members, Clause, Clauses}
@@ -127,12 +127,3 @@ defaults_same (t.present x) = refl
 -- a parameter with a name
 pub parameter_texts : (k : Stars) (n : List ℕ) (u : Extent) (a : Annotation) (b : Bound) (s : Extent) → stars_text k ++ n ++ type_behind (codes ": ") a ++ behind (codes " = ") b ≡ member_text (t.parameter k n u a b s)
 parameter_texts k n u a b s = ap (λ q. stars_text k ++ n ++ q ++ behind (codes " = ") b) (types_same a) ∙ ap (λ q. stars_text k ++ n ++ annotation_text a ++ q) (defaults_same b)
-
--- a slice
-steps_same : (b : Bound) → behind (codes ":") b ≡ step_text b
-steps_same t.absent = refl
-steps_same (t.present x) = refl
-
-bounds_same : (b : Bound) → behind [] b ≡ bound_text b
-bounds_same t.absent = refl
-bounds_same (t.present x) = refl

@@ -6,7 +6,7 @@ use Rattle.std.specs.declared.string.String.{String}
 use Rattle.starlark_place.specs.Place.{Extent}
 use Rattle.starlark_place.specs.declared.pos.Spanned.{Spanned}
 use Rattle.starlark_lexer.specs.Items.{number_of}
-use Rattle.starlark_ast.specs.Tree.{Expr, Member, Members, Bound, Annotation, Clause, Clauses, Name, Symbol, Symbols, Statement, Sequence}
+use Rattle.starlark_ast.specs.Tree.{Expr, Member, Members, Bound, Annotation, Clause, Clauses, Name, Symbols, Statement, Sequence}
 use Rattle.starlark_ast.specs.Tree as tree
 use Rattle.starlark_ast.specs.declared.ast.Comma.{Comma}
 use Rattle.starlark_ast.specs.declared.ast.AstLiteral.{AstLiteral}

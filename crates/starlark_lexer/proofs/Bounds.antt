@@ -26,7 +26,7 @@ use Rattle.starlark_lexer.specs.declared.scan.Turn.TheVariants as turns
 use Rattle.starlark_lexer.specs.Literals.{body, quotes, is_format, is_bytes, is_mark}
 use Rattle.starlark_lexer.specs.Fronts.{opening_front}
 use Rattle.starlark_lexer.specs.Classes.{is_blank, is_word_byte, begins_word, begins_digit, is_continuation, operators, lookup, digits_len, behind_digits, radix_of, base_of, line_end, line_len, begins_line, leading, blanks, has_tab, spaces, is_open, closes_field, is_zeros, is_reserved, keyword_of}
-use Rattle.starlark_lexer.specs.Scan.{is_in, scan, scan_more, by_front, first_row, here, text_turn, literal_turn, opens_turn, at_ground, turn_of, line_from, line_turn, fits, kept, pass, gap, more_than, signed_len, exponent_len, fraction_len, tail_len, based_len, decimal, decimal_scan, number_scan}
+use Rattle.starlark_lexer.specs.Scan.{scan, scan_more, by_front, first_row, here, text_turn, literal_turn, opens_turn, at_ground, turn_of, line_from, line_turn, fits, kept, pass, gap, more_than, signed_len, exponent_len, fraction_len, tail_len, based_len, decimal, decimal_scan, number_scan}
 use Rattle.starlark_lexer.specs.Scan as scans
 use Rattle.starlark_lexer.specs.Turns.{Bounds, Slices}
 use Rattle.starlark_lexer.proofs.Gaps.{pass_within, gap_step, gap_stop}

@@ -27,10 +27,6 @@ earlier text i j [] None h c = both_passed text i j _ h c
 earlier text i j [] (Some s) h c = c
 earlier text i j (x ∷ xs) f h c = (both_passed text i j _ h c.0, c.1)
 
--- all of a front of so many bytes
-record IsGap (rest : List ℕ) (n : ℕ) : Type 0 where
-  each : (k : ℕ) → k < n → begins_gap (drop k rest) ≡ true
-
 gap_blank : (b : ℕ) (bs : List ℕ) → is_blank b ≡ true → begins_gap (b ∷ bs) ≡ true
 gap_blank b bs h = rw h refl
 

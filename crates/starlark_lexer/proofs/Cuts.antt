@@ -75,12 +75,6 @@ quotes_some marks.Double = omega arith
 quotes_some marks.TripleSingle = omega arith
 quotes_some marks.TripleDouble = omega arith
 
-pub quotes_most : (q : FStringQuote) → quotes q ≤ 3
-quotes_most marks.Single = omega arith
-quotes_most marks.Double = omega arith
-quotes_most marks.TripleSingle = omega arith
-quotes_most marks.TripleDouble = omega arith
-
 within_whole : (rest : List ℕ) (n : ℕ) → 0 < n → n ≤ length rest → IsWithin rest 0 n n
 within_whole rest n pos le = record { some = pos; fits = omega arith; within = le }
 

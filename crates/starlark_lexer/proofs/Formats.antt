@@ -12,7 +12,7 @@ use Rattle.starlark_lexer.specs.declared.format.FormatConv.{FormatConv}
 use Rattle.starlark_lexer.specs.declared.format.Turn.{Turn}
 use Rattle.starlark_lexer.specs.declared.format.Turn.TheVariants.{Over, Text, Escape, Capture, Fault}
 use Rattle.starlark_lexer.specs.declared.format.FormatError.{FormatError}
-use Rattle.starlark_lexer.specs.Format.{Format, Part, text, capture, escape, nothing, with_part, plain, begins, name_len, conversion, IsOver, IsFirst, IsError}
+use Rattle.starlark_lexer.specs.Format.{Format, Part, text, capture, escape, with_part, plain, begins, name_len, conversion, IsOver, IsFirst, IsError}
 use Rattle.starlark_lexer.specs.FormatScan.{by_conversion, opens, turn, by_turn, parsed}
 
 -- ---- where a text may be cut
@@ -139,10 +139,6 @@ pub boundary_name : (xs : List ℕ) (n len : ℕ) → IsCapture xs n len → IsC
 boundary_name xs n len c = IsCharBoundary-before_ascii xs (1 + n) c.name c.behind
 
 -- ---- one step of the whole
-
-nothing_from : (i n : ℕ) → parsed i n [] ≡ nothing
-unfolding parsed
-nothing_from i n = refl
 
 skip : (i n : ℕ) (xs : List ℕ) → parsed i n xs ≡ parsed (i + n) 0 (drop n xs)
 unfolding parsed

@@ -101,11 +101,6 @@ field_back n rules.code b g bs e = absurd (cc)
 field_back n (rules.inside c f) b g bs e = absurd (cc)
 field_back n (rules.field c f cs) b g bs e = let same_form : f ≡ g = cc in let same_field : cs ≡ bs = cc in (c, λ i. rules.field c (same_form i) (same_field i))
 
-code_back : (n : ℕ) (m : Mode) → mode_on n m ≡ rules.code → m ≡ rules.code
-code_back n rules.code e = refl
-code_back n (rules.inside c f) e = absurd (cc)
-code_back n (rules.field c f cs) e = absurd (cc)
-
 -- ---- a step
 
 abbrev pub Moves : ℕ → Past → List Item → List ℕ → List ℕ → Move → Type 0

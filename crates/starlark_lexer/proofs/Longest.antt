@@ -16,7 +16,7 @@ use Rattle.starlark_lexer.specs.Items.{integer, float, operator_lexeme}
 use Rattle.starlark_lexer.specs.Number.{number}
 use Rattle.starlark_lexer.specs.Literals.{opening_of}
 use Rattle.starlark_lexer.specs.Classes.{Meaning, plain_word, by_keyword, token, refused, opens, when, or_else, meaning, by_operator, operator_of, operators, lookup, is_word, is_digits, is_zeros, is_decimal, is_based, base_of, radix_of, is_float, begins_digit, behind_digits, digits_len, is_other, is_nil, is_blank, is_word_byte, begins_word, is_continuation, word_meaning, keyword_of, is_reserved, IsLexeme}
-use Rattle.starlark_lexer.specs.Scan.{is_in, scan, scan_more, number_scan, decimal_scan, decimal, tail_len, based_len, first_row, is_pointed, lexeme_from}
+use Rattle.starlark_lexer.specs.Scan.{scan_more, number_scan, decimal_scan, decimal, tail_len, based_len, first_row, lexeme_from}
 use Rattle.starlark_lexer.specs.Scan as scans
 use Rattle.starlark_lexer.proofs.Runs.{list_all_run}
 use Rattle.starlark_lexer.proofs.Fronts.{stops, behind_run, digits_right, is_tail, tail_right, whole_based, based_right}

@@ -7,7 +7,7 @@ use Rattle.starlark_lexer.specs.declared.scan.Found.{Found}
 use Rattle.starlark_lexer.specs.declared.scan.Found.TheVariants as found
 use Rattle.starlark_lexer.specs.declared.scan.Turn.{Turn}
 use Rattle.starlark_lexer.specs.declared.scan.Turn.TheVariants as turns
-use Rattle.starlark_lexer.specs.Items.{Lexed, with_items}
+use Rattle.starlark_lexer.specs.Items.{with_items}
 use Rattle.starlark_lexer.specs.Scan.{At, Act, goes, stops, act, skip, goes_by, within_by, in_text, here, text_turn, literal_turn, opens_turn, at_ground, scan, turn_of, line_turn, step, follow, run, size, left_at, pass, gap, is_joined}
 use Rattle.starlark_lexer.specs.Turns.{Cuts, IsLexical}
 use Rattle.starlark_lexer.proofs.Cuts.{here_cuts, line_cuts, text_cuts}
@@ -136,10 +136,6 @@ left_follow c (stops l) s = refl
 pub left_step : (c : At) → left_at c ≡ follow (step c) left_at
 unfolding run
 left_step c = left_follow c (step c) (shorter c)
-
--- what is passed over gives nothing
-no_items : (l : Lexed) → with_items [] l ≡ l
-no_items l = refl
 
 left_pass : (c : At) (n : ℕ) → c.state.fresh ≡ false → in_text c.state.mode ≡ false → pass (is_joined c.state) c.rest ≡ suc n → left_at c ≡ left_at (skip (suc n) c)
 left_pass c n f m h = left_step c ∙ ap (λ a. follow a left_at) (step_within c f m ∙ ap (λ k. goes_by k c) h)

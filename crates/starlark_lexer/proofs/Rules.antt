@@ -30,7 +30,7 @@ use Rattle.starlark_lexer.specs.declared.words.Keyword.{Keyword}
 use Rattle.starlark_lexer.specs.declared.words.Keyword.TheVariants as keyword
 use Rattle.starlark_lexer.specs.declared.words.Operator.TheVariants as operator
 use Rattle.starlark_lexer.specs.Items as Items
-use Rattle.starlark_lexer.specs.Items.{Lexeme, keyword_lexeme, newline, comment, fstring_start, fstring_text, fstring_expr_start, fstring_expr_end, fstring_bang, fstring_end, Item, item, Lexed, nothing, with_items, with_fault, is_opening, is_closing, operator_lexeme, opening_item, closing_item, dedents, newline_span}
+use Rattle.starlark_lexer.specs.Items.{Lexeme, keyword_lexeme, newline, comment, fstring_start, fstring_text, fstring_expr_start, fstring_expr_end, fstring_bang, fstring_end, Item, item, nothing, with_items, with_fault, is_opening, is_closing, operator_lexeme, opening_item, closing_item, dedents, newline_span}
 use Rattle.starlark_lexer.specs.Classes.{Meaning, token, refused, opens, meaning, is_blank, leading, blanks, has_tab, spaces, width, is_open, line_end, line_len, escaped, closes_field, IsLexeme}
 use Rattle.starlark_lexer.specs.Widths.{IsOpen, IsDeeper, Closes}
 use Rattle.starlark_lexer.specs.Lex as rules

@@ -11,7 +11,7 @@ use Rattle.starlark_lexer.specs.declared.scan.Mode.TheVariants as mode
 use Rattle.starlark_lexer.specs.declared.scan.Turn.TheVariants as turns
 use Rattle.starlark_lexer.specs.Items.{is_opening, operator_lexeme}
 use Rattle.starlark_lexer.specs.Literals.{is_format}
-use Rattle.starlark_lexer.specs.Scan.{after, turned, opens, closes, bit, is_newline, more_in, last_in, mode_after, field_of, body_of, last_mode, depth_of, begin_of}
+use Rattle.starlark_lexer.specs.Scan.{after, turned, opens, closes, bit, is_newline, more_in, last_in, mode_after, field_of, body_of, last_mode, begin_of}
 use Rattle.starlark_lexer.specs.Turns.{IsWithin, Bounds}
 use Rattle.starlark_lexer.specs.Parts.{IsStretch, IsMode, AreModes, IsSound}
 
@@ -40,11 +40,6 @@ pub modes_take : (text : List ℕ) (n k : ℕ) (xs : List Mode) → AreModes tex
 modes_take text n zero xs h = tt
 modes_take text n (suc k) [] h = tt
 modes_take text n (suc k) (x ∷ xs) h = (h.0, modes_take text n k xs h.1)
-
-pub depth_most : (text : List ℕ) (n : ℕ) (x : Mode) → IsMode text n x → depth_of x ≤ n
-depth_most text n mode.Code h = omega arith
-depth_most text n (mode.Inside b f) h = omega arith
-depth_most text n (mode.Field b f d) h = h.2
 
 pub field_mode : (text : List ℕ) (n : ℕ) (x : Mode) → IsMode text n x → IsMode text n (field_of x)
 field_mode text n mode.Code h = tt

@@ -1,7 +1,6 @@
 //! Cuts a format string into texts, captures and escaped braces.
 
-ghost use Rattle.std.specs.Prelude.{◌≡◌, ◌≤◌, ◌<◌, ◌^◌, ◌+◌, ◌++◌, Some, length, drop, take};
-ghost use Rattle.std.specs.List.{prefix_len};
+ghost use Rattle.std.specs.Prelude.{◌≡◌, ◌≤◌, ◌<◌, ◌^◌, ◌+◌, ◌++◌, Some, length};
 ghost use Rattle.starlark_lexer.specs.Format as spec;
 ghost use Rattle.starlark_lexer.specs.FormatScan as code;
 ghost use Rattle.starlark_lexer.specs.Format.{Gives, Pieces, error_text};

@@ -1,10 +1,9 @@
 //! A lexer's parts, and one call of it.
 
-ghost use Rattle.std.specs.Prelude.{◌≡◌, ◌<◌, ◌≤◌, ◌+◌, ◌*◌, ◌^◌, length, drop, if◌then◌else◌, IfOk, true, false, Some};
+ghost use Rattle.std.specs.Prelude.{◌≡◌, ◌<◌, ◌≤◌, ◌+◌, ◌*◌, length, drop, if◌then◌else◌, true, false, Some};
 ghost use Rattle.starlark_lexer.specs.Classes.{begins};
-ghost use Rattle.starlark_lexer.specs.Items.{lexeme_of, answers, with_fault};
-ghost use Rattle.starlark_lexer.specs.Literals.{is_bytes};
-ghost use Rattle.starlark_lexer.specs.Scan.{lexeme_from, in_text};
+ghost use Rattle.starlark_lexer.specs.Items.{with_fault};
+ghost use Rattle.starlark_lexer.specs.Scan.{in_text};
 ghost use Rattle.starlark_lexer.specs.Turns.{IsLexical, passed, room};
 ghost use Rattle.starlark_lexer.specs.declared.scan.Turn.TheVariants.{End, Gives, Enter, Fits, Deeper, Leave};
 ghost use Rattle.starlark_lexer.specs.declared.scan.Mode.TheVariants.{Inside};

@@ -6,7 +6,7 @@ ghost use Rattle.std.specs.Char.{is_ascii_digit};
 ghost use Rattle.std.specs.List.{list_all, list_any, prefix_len};
 ghost use Rattle.starlark_lexer.specs.Classes as classes;
 ghost use Rattle.starlark_lexer.specs.Scan as spec;
-ghost use Rattle.starlark_lexer.specs.Scan.{depth_of, IsClass, IsEnding};
+ghost use Rattle.starlark_lexer.specs.Scan.{IsClass, IsEnding};
 ghost use Rattle.starlark_lexer.specs.Literals as literals;
 ghost use Rattle.starlark_lexer.specs.Fronts as fronts;
 ghost use Rattle.starlark_lexer.specs.Reads.{Grows};

@@ -1,6 +1,6 @@
 //! The state behind what was handed out.
 
-ghost use Rattle.std.specs.Prelude.{Some, None, ◌≡◌, ◌<◌, ◌≤◌, ◌+◌, ◌-◌, ◌^◌, length, take, map, true, false};
+ghost use Rattle.std.specs.Prelude.{Some, None, ◌≡◌, ◌<◌, ◌+◌, ◌-◌, ◌^◌, length, take, true, false};
 ghost use Rattle.starlark_lexer.specs.Scan as spec;
 ghost use Rattle.starlark_lexer.specs.Scan.{depth_of};
 

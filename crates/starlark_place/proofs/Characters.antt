@@ -83,11 +83,6 @@ matches_in-yes [] cs rest some e = absurd (omega arith)
 matches_in-yes (n ∷ ns) cs rest some e =
     ap (matches_from (n ∷ ns) 0) e ∙ rw (begins_with-append (n ∷ ns) rest) (ap suc (matches_from-skip (n ∷ ns) ns rest (length (n ∷ ns) - 1) (omega arith)))
 
--- no match at the front
-pub matches_in-no : (needle rest : List ℕ) (c : ℕ) → 0 < length needle → begins_with needle (c ∷ rest) ≡ false → matches_in needle (c ∷ rest) ≡ matches_in needle rest
-matches_in-no [] rest c some e = absurd (omega arith)
-matches_in-no (n ∷ ns) rest c some e = rw e refl
-
 pub matches_in-le : (needle cs : List ℕ) → 0 < length needle → matches_in needle cs ≤ length cs
 matches_in-le [] cs some = absurd (omega arith)
 matches_in-le (n ∷ ns) cs some = matches_from-le (n ∷ ns) 0 cs
@@ -109,10 +104,3 @@ chars-empty (b ∷ bs) h = absurd (omega arith)
 pub stands_in-yes : (needle cs : List ℕ) → begins_with needle cs ≡ true → stands_in needle cs ≡ true
 stands_in-yes needle [] h = h
 stands_in-yes needle (c ∷ cs) h = rw h refl
-
-pub stands_in-no : (needle rest : List ℕ) (c : ℕ) → begins_with needle (c ∷ rest) ≡ false → stands_in needle (c ∷ rest) ≡ stands_in needle rest
-stands_in-no needle rest c h = rw h refl
-
-pub stands_in-end : (needle cs : List ℕ) → begins_with needle cs ≡ false → cs ≡ [] → stands_in needle cs ≡ false
-stands_in-end needle [] h e = h
-stands_in-end needle (c ∷ cs) h e = absurd (let l = ap length e in omega arith)

@@ -3,7 +3,7 @@ use Rattle.std.proofs.Common.{◌≡◌, ◌<◌, ◌≤◌, ℕ, ◌+◌, ◌-�
 use Rattle.std.specs.List.{count_by}
 use Rattle.std.proofs.lemmas.Bool.{cases_Bool, false≢true, cases_lt}
 use Rattle.std.proofs.lemmas.Bool.Decides.{nat_tests}
-use Rattle.std.proofs.lemmas.List.{at_drop_more, get_or_default, length-take-le, drop-take}
+use Rattle.std.proofs.lemmas.List.{get_or_default, length-take-le, drop-take}
 use Rattle.std.specs.List.Sorted.{IsPartitionedBy, IsPartitionPoint}
 use Rattle.std.proofs.lemmas.List.Sums.{sum_by-cons}
 use Rattle.std.specs.Prelude.{◌⊎◌}
@@ -11,9 +11,6 @@ use Rattle.std.specs.Str.{IsUtf8, IsCharBoundary}
 use Rattle.std.proofs.lemmas.Str.{IsCharBoundary-start, IsCharBoundary-end, IsCharBoundary-after_ascii}
 use Rattle.starlark_place.specs.Place.{is_feed, is_continuation, characters, last_line, line_begin}
 use Rattle.starlark_place.specs.Lines.{behind_feeds, line_begins}
-
-pub behind_feeds-more : (text : List ℕ) (i : ℕ) → i < length text → behind_feeds i (drop i text) ≡ cond (is_feed (get_or text i 0)) ((i + 1) ∷ behind_feeds (i + 1) (drop (i + 1) text)) (behind_feeds (i + 1) (drop (i + 1) text))
-behind_feeds-more text i h = at_drop_more (behind_feeds i) text i 0 h
 
 add_cond : (t : Bool) (n : ℕ) → cond t 1 0 + n ≡ cond t (suc n) n
 add_cond true n = omega arith
