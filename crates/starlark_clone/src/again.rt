@@ -5,7 +5,7 @@ ghost use Rattle.starlark_place.specs.Place.{Extent};
 ghost use Rattle.starlark_clone.specs.Copies.{bound_by, clauses_by, items_by, members_by, pairs_by, seen, type_by};
 ghost use Rattle.starlark_clone.specs.Replacing.{replaced, replaced_bound, replaced_clause, replaced_clauses, replaced_member, replaced_members, replaced_type};
 ghost use Rattle.starlark_ast.specs.Tree as tree;
-ghost use Rattle.starlark_ast.specs.View.{argument_at, argument_view, boxed_expr, boxed_type, clause_view, expr_at, expr_view, for_clause_view, members, parameter_at, parameter_view, target_at, target_view, type_view};
+ghost use Rattle.starlark_ast.specs.View.{argument_at, argument_view, boxed_expr, boxed_type, clause_view, expr_at, expr_view, for_clause_view, members, parameter_at, parameter_view, target_view, type_view};
 ghost use Rattle.starlark_ast.specs.Views.{clauses_of, items_of, pairs_of, targets_of};
 
 use crate::copies::{assigned, boxed_value, identifier, text_at};

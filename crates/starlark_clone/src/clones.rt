@@ -1,6 +1,6 @@
 //! Clones of expressions and of what stands in them.
 
-ghost use Rattle.std.specs.Prelude.{◌≡◌, IfOk};
+ghost use Rattle.std.specs.Prelude.{◌≡◌};
 ghost use Rattle.starlark_place.specs.Place.{Extent};
 ghost use Rattle.starlark_ast.specs.View.{argument_view, call_args_view, clause_view, expr_view, for_clause_view, fstring_view, lambda_view, parameter_view, target_view, type_view};
 

@@ -1,6 +1,6 @@
 //! Clones of statements and of what holds statements.
 
-ghost use Rattle.std.specs.Prelude.{◌≡◌, IfOk};
+ghost use Rattle.std.specs.Prelude.{◌≡◌};
 ghost use Rattle.starlark_place.specs.Place.{Extent};
 ghost use Rattle.starlark_ast.specs.View.{assign_view, def_view, for_view, stmt_view};
 

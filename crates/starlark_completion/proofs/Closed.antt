@@ -1,12 +1,11 @@
 -- What ends a construct of an expression closes what is open there.
 use Rattle.std.proofs.Common.{ℕ, ◌≡◌, ◌∷◌, ◌++◌, [], List, false, refl, ap}
 use Rattle.starlark_lexer.specs.Items.{Lexeme, newline, dedent, string, keyword_else, keyword_in, keyword_pass, comma, colon, equal, opening_round, closing_round, closing_square, closing_curly, Item}
-use Rattle.starlark_lexer.specs.Joining.{nested}
 use Rattle.starlark_grammar.specs.Tables.{Bracket, round, square, curly, closing_bracket}
 use Rattle.starlark_grammar.specs.Points.{Place, brackets, behind, before_body, targets_in, at_first, at_second, at_third, Frame, member, key, bound, second, operand, behind_sign, condition, otherwise, body, over, filter, field, Point, member_wanted, member_read, key_read, star_read, stars_read, name_read, bound_wanted, bound_read, second_read, attribute_wanted, not_read, condition_read, clauses_read, piece_wanted, field_read, letter_wanted, letter_read}
 use Rattle.starlark_grammar.specs.Completion.{some_name, place_end, point_end, frame_end, spelled}
 use Rattle.starlark_grammar.specs.Language.{bare}
-use Rattle.starlark_cutting.specs.Spelling.{Plain, a_name, an_else, an_in, a_pass, a_comma, a_colon, an_equal, an_opening, a_round, a_square, a_curly, a_string, lexeme_of}
+use Rattle.starlark_cutting.specs.Spelling.{a_name, an_else, an_in, a_pass, a_comma, a_colon, an_equal, an_opening, a_round, a_square, a_curly, a_string}
 use Rattle.starlark_cutting.specs.Opened.{Nest, outside, deeper, within_text, Goes_to, Way, Put, plain, a_letter, field_end, string_end, put_lexeme, put_lexemes}
 use Rattle.starlark_completion.specs.Shapes.{in_place, in_frame, at_point}
 use Rattle.starlark_completion.specs.Ending.{copies}
@@ -99,21 +98,6 @@ frame_closes r (body ms b) ts z c = c
 frame_closes r (over p b m cs t) ts z c = by_bracket p z c
 frame_closes r (filter p b m cs) ts z c = by_bracket p z c
 frame_closes r (field b f ms) ts z c = by_field (by_text c)
-
--- plain ones open and close no f-string
-plain_strings : (p : Plain) (n : ℕ) → nested n (lexeme_of p) ≡ n
-plain_strings a_name n = refl
-plain_strings an_else n = refl
-plain_strings an_in n = refl
-plain_strings a_pass n = refl
-plain_strings a_comma n = refl
-plain_strings a_colon n = refl
-plain_strings an_equal n = refl
-plain_strings an_opening n = refl
-plain_strings a_round n = refl
-plain_strings a_square n = refl
-plain_strings a_curly n = refl
-plain_strings a_string n = refl
 
 -- What is put before the line end: plain ones alone where no f-string is open.
 pub record Front (k : ℕ) (r : Nest) (xs : List Lexeme) : Type 0 where

@@ -1,5 +1,5 @@
 -- Tokens on a way among f-strings and brackets are counted as the lexer counts them.
-use Rattle.std.proofs.Common.{ℕ, ◌≡◌, ◌+◌, ◌∷◌, ◌++◌, ◌∙◌, [], zero, suc, List, Bool, cond, refl, ap, sym, subst, arith, count_by}
+use Rattle.std.proofs.Common.{ℕ, ◌≡◌, ◌+◌, ◌∷◌, ◌∙◌, [], zero, suc, List, Bool, cond, refl, ap, sym, arith, count_by}
 use Rattle.std.proofs.lemmas.List.Sums.{sum_by-cons}
 use Rattle.starlark_lexer.specs.Items.{Lexeme, comment, fstring_start, fstring_text, fstring_expr_start, fstring_bang, fstring_expr_end, fstring_end, opening_round, opening_square, opening_curly, closing_round, closing_square, closing_curly, is_opening, is_closing, opening_item, closing_item, Item}
 use Rattle.starlark_lexer.specs.Joining as joining
@@ -117,7 +117,3 @@ brackets_count (x ∷ v) (suc n) r t q c =
 -- where nothing is open before and behind them, tokens are even
 pub even : (v : List Item) → Way (outside 0) (bare v) (outside 0) → IsEven v
 even v c = record { strings = sym (strings_count v 0 (outside 0) (outside 0) refl c); brackets = let w = brackets_count v 0 (outside 0) (outside 0) refl c in omega (arith, w) }
-
-pub way_append : (xs ys : List Lexeme) (r t u : Nest) → Way r xs t → Way t ys u → Way r (xs ++ ys) u
-way_append [] ys r t u c d = subst (λ z. Way z ys u) (sym c) d
-way_append (x ∷ xs) ys r t u c d = (c.0, (c.1.0, way_append xs ys c.0 t u c.1.1 d))

@@ -2,7 +2,7 @@
 use Rattle.std.proofs.Common.{ℕ, ◌≡◌, suc, Option, Some, nat_eq, cond, refl, ap, sym, subst}
 use Rattle.starlark_lexer.specs.Items.{Lexeme, newline, indent, dedent, identifier, string, keyword_break, keyword_continue, keyword_def, keyword_elif, keyword_else, keyword_for, keyword_if, keyword_load, keyword_pass, keyword_return, comma, semicolon, colon, equal, star, star_star, slash, minus_greater, opening_round, closing_round}
 use Rattle.starlark_ast.specs.Tree as tree
-use Rattle.starlark_ast.specs.Tree.{Members, Stars, Name, Symbol, Symbols, Annotation, Statement, Sequence, add_statement, no_statements, plain, return, when}
+use Rattle.starlark_ast.specs.Tree.{Name, Symbol, Symbols, add_statement, no_statements, when}
 use Rattle.starlark_grammar.specs.Spans.{stretch}
 use Rattle.starlark_grammar.specs.Nodes.{leaf_at, named}
 use Rattle.starlark_grammar.specs.Sorts.{sort}

@@ -2,7 +2,7 @@
 use Rattle.std.proofs.Common.{ℕ, ◌≡◌, zero, suc, Bool, true, false, Option, Some, None, nat_eq, cond, refl, ap}
 use Rattle.starlark_lexer.specs.Items.{Lexeme, newline, identifier, integer, float, string, bytes, fstring_start, keyword_and, keyword_if, keyword_in, keyword_lambda, keyword_not, keyword_or, comma, semicolon, equal, equal_equal, bang_equal, less_than, greater_than, less_equal, greater_equal, plus, minus, star, slash, slash_slash, percent, ampersand, pipe, caret, less_less, greater_greater, tilde, dot, ellipsis, opening_round, closing_round, opening_square, opening_curly}
 use Rattle.starlark_ast.specs.Tree as tree
-use Rattle.starlark_ast.specs.Tree.{Members, Stars, Name, Annotation, Statement, Sequence, plain, starred, double_starred}
+use Rattle.starlark_ast.specs.Tree.{Members, Stars, Name, Annotation, Statement, plain, starred, double_starred}
 use Rattle.starlark_grammar.specs.Tables.{Beginning, beginning, begins_at, Suffix, suffix, grade}
 use Rattle.starlark_grammar.specs.Frames.{Blocks, outer, inner, Ifs, at_if, at_elif, Suites, of_if, of_else, of_for, of_def, Head, head, Rows, at_block, at_suite, Line, line, Frames, tail, State}
 use Rattle.starlark_grammar.specs.Machine.{push, settled, close, end_row, enter, goes_on, begun, begin, begin_with, end_small, end_param, begin_default}

@@ -2,7 +2,6 @@
 use Rattle.std.proofs.Common.{ℕ, Option, Some, None, refl}
 use Rattle.starlark_lexer.specs.Items.{Lexeme, newline, identifier, keyword_in, comma, semicolon, colon, equal, plus_equal, minus_equal, star_equal, slash_equal, slash_slash_equal, percent_equal, ampersand_equal, pipe_equal, caret_equal, less_less_equal, greater_greater_equal, closing_round}
 use Rattle.starlark_ast.specs.Tree as tree
-use Rattle.starlark_ast.specs.Tree.{Members, Stars, Name, Symbol, Symbols, Annotation, Statement, Sequence, add_statement, no_statements, return, when}
 use Rattle.starlark_grammar.specs.Tables.{round, square, curly, suffix}
 use Rattle.starlark_grammar.specs.Points.{brackets, behind, before_body, targets_in, member, key, bound, second, operand, behind_sign, condition, otherwise, body, over, filter, field, Point, member_wanted, member_read, key_read, bound_wanted, bound_read, second_read, condition_read, clauses_read, field_read, opens}
 use Rattle.starlark_grammar.specs.Frames.{Spots, first, annotation, test, source, param_type, param_default, result_type, Lists, left, right, returned, target, Frames, tail, inside, listed, spot, State}

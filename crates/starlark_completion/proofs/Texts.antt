@@ -64,10 +64,6 @@ puts_kept (x ∷ xs) = (put_kept x, puts_kept xs)
 
 -- ---- kinds of tokens
 
-text_is : (x : Lexeme) → is_text x ≡ true → (v : List ℕ) × (x ≡ fstring_text v)
-text_is (fstring_text v) q = (v, refl)
-text_is _ q = absurd (false≢true q)
-
 is_inner : (x : Lexeme) → is_comment x ≡ false → kind_of x ≡ another → inner x ≡ true
 is_inner newline c q = absurd (cc)
 is_inner indent c q = absurd (cc)

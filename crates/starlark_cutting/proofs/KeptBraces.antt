@@ -17,7 +17,7 @@ use Rattle.starlark_lexer.specs.declared.literal.Sort.{Sort}
 use Rattle.starlark_lexer.specs.declared.token.FStringQuote.{FStringQuote}
 use Rattle.starlark_lexer.specs.declared.token.FStringQuote.TheVariants.{Single, Double, TripleSingle, TripleDouble}
 use Rattle.starlark_lexer.specs.Literals as literals
-use Rattle.starlark_lexer.specs.Literals.{body, is_format, opening_of, continues, character, no_escape, escaped, simple, hex_digits, digits, begins, hex_escape, octal_escape, other_escape, by_simple, escape, raw_escape, brace, piece, goes_on, later, read}
+use Rattle.starlark_lexer.specs.Literals.{body, is_format, opening_of, continues, no_escape, escaped, simple, hex_digits, digits, begins, hex_escape, octal_escape, other_escape, by_simple, escape, raw_escape, brace, piece, goes_on, later, read}
 use Rattle.starlark_lexer.specs.Classes.{meaning, is_word_byte, operators, operator_of, is_continuation}
 use Rattle.std.specs.Str.Parse.{digits_value}
 use Rattle.starlark_cutting.proofs.KeptBodies.{Within, Alike, choose, escaped_same, escaped_len}
@@ -116,10 +116,6 @@ module _ (p : ℕ → Bool) (a c : ℕ) (w o : List ℕ) (no_a : p a ≡ false) 
   taken_other zero (x ∷ xs) = refl
   taken_other (suc m) [] = rw (no_a, no_c) refl
   taken_other (suc m) (x ∷ xs) = elim (cases_Bool (p x)) [ inl t ↦ rw t (ap (λ n. 1 + n) (taken_other m xs)) | inr t ↦ rw t refl ]
-
-  run_most : (xs : List ℕ) → prefix_len p (xs ++ a ∷ w) ≤ length xs
-  run_most [] = rw no_a (omega arith)
-  run_most (x ∷ xs) = elim (cases_Bool (p x)) [ inl t ↦ rw t (omega (arith, run_most xs)) | inr t ↦ rw t (omega arith) ]
 
   taken_most : (m : ℕ) (xs : List ℕ) → prefix_len p (take m (xs ++ a ∷ w)) ≤ length xs
   taken_most zero [] = omega arith

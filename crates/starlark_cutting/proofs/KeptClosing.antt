@@ -7,7 +7,7 @@ use Rattle.std.proofs.lemmas.Str.Ascii.{IsAscii-nil, IsAscii-push}
 use Rattle.starlark_lexer.specs.Items.{newline, comment, is_opening, is_closing, Item, item, Lexed, with_items, opening_item, closing_item}
 use Rattle.starlark_lexer.specs.Classes.{leading, line_len, line_end}
 use Rattle.starlark_lexer.specs.Widths.{Closes}
-use Rattle.starlark_lexer.specs.Lex.{Past, Step, Lex, on, over, recorded, mode_behind, is_inside, IsBalanced, goes_on, start}
+use Rattle.starlark_lexer.specs.Lex.{Past, Step, Lex, on, recorded, mode_behind, is_inside, IsBalanced, goes_on, start}
 use Rattle.starlark_lexer.specs.Lex as rules
 use Rattle.starlark_lexer.specs.Joining.{nested, open_behind}
 use Rattle.starlark_cutting.specs.Cutting.{tokens_of, EvenWith, IsCutAt, IsContinued}

@@ -7,7 +7,7 @@ use Rattle.starlark_lexer.specs.Items.{Item, item, newline, dedents, Lexed, noth
 use Rattle.starlark_lexer.specs.Joining.{is_comment}
 use Rattle.starlark_lexer.specs.Widths.{Closes}
 use Rattle.starlark_lexer.specs.Classes.{is_blank, leading}
-use Rattle.starlark_lexer.specs.Lex.{Past, Step, Lex, on, gives, is_inside, moved, recorded, mode_behind, IsBalanced, goes_on, is_over, start}
+use Rattle.starlark_lexer.specs.Lex.{Past, Step, Lex, on, is_inside, moved, recorded, mode_behind, IsBalanced, goes_on, is_over, start}
 use Rattle.starlark_lexer.specs.Lex as rules
 use Rattle.starlark_cutting.specs.Cutting.{tokens_of, IsContinued}
 use Rattle.starlark_cutting.proofs.KeptPuts.{Among, end_line}

@@ -1,19 +1,14 @@
--- A text that is cut off behind one of its lexemes is cut into the same up to there, whatever stands behind a blank or a line feed.
-use Rattle.std.proofs.Common.{◌≡◌, ◌≤◌, ℕ, ◌+◌, Bool, true, false, cond, List, [], ◌∷◌, ◌++◌, length, drop, refl, ap, sym, ◌∙◌, arith, inl, subst, append_assoc, length-drop}
+-- Steps one behind the other; a text that is cut step by step up to one of its lexemes.
+use Rattle.std.proofs.Common.{◌≡◌, ◌≤◌, ℕ, ◌+◌, Bool, true, cond, List, ◌++◌, length, ap, ◌∙◌, arith}
 use Rattle.std.specs.Prelude.{count_by}
-use Rattle.std.proofs.lemmas.List.{drop-append-le}
 use Rattle.std.proofs.lemmas.List.Sums.{sum_by-append}
-use Rattle.starlark_lexer.specs.Items.{Item, Lexed, with_items, opening_item, closing_item}
-use Rattle.starlark_lexer.specs.Lex.{Past, Move, Step, Lex, on, over, goes_on, is_over}
-use Rattle.starlark_lexer.specs.Lex as rules
+use Rattle.starlark_lexer.specs.Items.{Item, opening_item, closing_item}
+use Rattle.starlark_lexer.specs.Lex.{Past, Step, on}
 use Rattle.starlark_cutting.specs.Cutting.{indent_item}
 use Rattle.starlark_lexer.specs.Joining.{outside, open_behind, dedent_item}
-use Rattle.starlark_lexer.proofs.Joined.{Nest, nest_code, outside_append, open_append}
-use Rattle.starlark_cutting.proofs.KeptLines.{Stops}
-use Rattle.starlark_cutting.proofs.KeptMoves.{At, Fresh}
-use Rattle.starlark_cutting.proofs.KeptSteps.{goes}
-use Rattle.starlark_cutting.proofs.KeptTracks.{Tracks, tracks}
-use Rattle.starlark_cutting.proofs.KeptFinal.{one_inner, last}
+use Rattle.starlark_lexer.proofs.Joined.{outside_append, open_append}
+use Rattle.starlark_cutting.proofs.KeptTracks.{Tracks}
+use Rattle.starlark_cutting.proofs.KeptFinal.{one_inner}
 
 -- ---- steps one behind the other
 
@@ -40,59 +35,9 @@ both_tracks p xs q ys r a b =
           };
     }
 
--- ---- the cut
-
--- What stands behind the kept part u of a text, where v stood behind it, and the items before.
-pub record Cut (p : Past) (u v : List ℕ) (xs : List Item) : Type 0 where
-  pub past : Past
-  pub place : past.place ≡ p.place + length u
-  pub fresh : past.fresh ≡ false
-  pub mode : past.mode ≡ rules.code
-  pub outer : past.outer ≡ []
-  pub at : At p u v
-  pub tracks : Tracks p xs past
-  pub lex : (o : List ℕ) → Stops o → (m : Lexed) → Lex past o m → Lex p (u ++ o) (with_items xs m)
+-- ---- a text up to a lexeme
 
 -- A text is cut step by step: at some steps, and then at one that gives one lexeme, behind which no f-string is open.
 pub data Upto : Past → List ℕ → List Item → ℕ → Type 0 where
   here : (p : Past) (rest : List ℕ) (xs : List Item) (q : Past) (more : List ℕ) → Step p rest (on xs q more) → one_inner xs ≡ true → Upto p rest xs q.place
   there : (p : Past) (rest : List ℕ) (xs : List Item) (q : Past) (more : List ℕ) (ys : List Item) (i : ℕ) → Step p rest (on xs q more) → q.place ≤ i → Upto q more ys i → Upto p rest (xs ++ ys) i
-
-first_cut : (p : Past) (rest : List ℕ) (xs : List Item) (q : Past) (more : List ℕ) (u v : List ℕ) → Step p rest (on xs q more) → one_inner xs ≡ true → rest ≡ u ++ v → q.place ≡ p.place + length u
-    → open_behind (length p.outer) xs ≡ 0 → Nest p.mode p.outer → Fresh p → Cut p u v xs
-first_cut p rest xs q more u v step one is at shut nest fr =
-    let t = tracks step nest fr in
-    let c = nest_code q.mode q.outer t.nest (sym t.strings ∙ shut) in
-    let s = last step u v is at c.0 one in
-    record {
-      past = q;
-      place = at;
-      fresh = s.fresh;
-      mode = c.0;
-      outer = c.1;
-      at = s.at;
-      tracks = t;
-      lex = λ o stop m d. goes_on p (u ++ o) xs q o m (s.step o stop) d;
-    }
-
-pub cut : {p : Past} {rest : List ℕ} {xs : List Item} {i : ℕ} → Upto p rest xs i → (u v : List ℕ) → rest ≡ u ++ v → i ≡ p.place + length u
-    → open_behind (length p.outer) xs ≡ 0 → Nest p.mode p.outer → Fresh p → Cut p u v xs
-cut (here p rest xs q more step one) u v is at shut nest fr = first_cut p rest xs q more u v step one is at shut nest fr
-cut (there p rest xs q more ys i step le far) u v is at shut nest fr =
-    let t = tracks step nest fr in
-    let k = goes step fr in
-    let fits : k.k ≤ length u = omega (arith, k.place, le, at) in
-    let left : more ≡ drop k.k u ++ v = k.is ∙ ap (drop k.k) is ∙ drop-append-le k.k u v fits in
-    let c = cut far (drop k.k u) v left (omega (arith, at, k.place, fits, length-drop k.k u)) (ap (λ d. open_behind d ys) (sym t.strings) ∙ sym (open_append (length p.outer) xs ys) ∙ shut) t.nest t.fresh in
-    record {
-      past = c.past;
-      place = omega (arith, c.place, k.place, fits, length-drop k.k u);
-      fresh = c.fresh;
-      mode = c.mode;
-      outer = c.outer;
-      at = (k.go u v (10 ∷ []) is fits c.at (inl refl)).0;
-      tracks = both_tracks p xs q ys c.past t c.tracks;
-      lex = λ o stop m d.
-          let both : with_items xs (with_items ys m) ≡ with_items (xs ++ ys) m = λ i. record { items = sym (append_assoc xs ys m.items) i; fault = m.fault } in
-          subst (Lex p (u ++ o)) both (goes_on p (u ++ o) xs q (drop k.k u ++ o) (with_items ys m) (k.go u v o is fits c.at (inl stop)).1 (c.lex o stop m d));
-    }

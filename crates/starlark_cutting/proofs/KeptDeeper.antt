@@ -6,7 +6,7 @@ use Rattle.std.proofs.lemmas.List.{drop-append-le, drop_all}
 use Rattle.starlark_lexer.specs.Items.{Item, item, Lexed, nothing, newline, indent, keyword_pass, dedents, with_items, opening_item, closing_item}
 use Rattle.starlark_lexer.specs.Widths.{IsDeeper, Closes}
 use Rattle.starlark_lexer.specs.Classes.{token, IsLexeme, is_blank, leading, blanks, has_tab, spaces, width}
-use Rattle.starlark_lexer.specs.Lex.{Past, Step, Lex, on, goes_on, start, moved, deepened, recorded, mode_behind, IsMeasured, IsBalanced}
+use Rattle.starlark_lexer.specs.Lex.{Past, Step, Lex, on, goes_on, start, deepened, recorded, mode_behind, IsMeasured, IsBalanced}
 use Rattle.starlark_lexer.specs.Lex as rules
 use Rattle.starlark_cutting.specs.Cutting.{IsIndented, filled_line, indent_item}
 use Rattle.starlark_lexer.specs.Joining.{dedent_item}

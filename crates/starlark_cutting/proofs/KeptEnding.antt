@@ -10,7 +10,7 @@ use Rattle.starlark_lexer.specs.Items.{Lexeme, Item, item, Lexed, identifier, st
 use Rattle.starlark_lexer.specs.Literals.{quotes, is_format}
 use Rattle.starlark_lexer.specs.Depth.{Bracket, IsDepth}
 use Rattle.starlark_lexer.specs.Classes.{meaning, token, closes_field, keyword_of, is_reserved}
-use Rattle.starlark_lexer.specs.Lex.{Mode, Past, Step, Lex, on, IsPlain, moved, turns, recorded, mode_behind, is_inside, below, goes_on}
+use Rattle.starlark_lexer.specs.Lex.{Mode, Past, Step, Lex, on, IsPlain, moved, mode_behind, is_inside, below, goes_on}
 use Rattle.starlark_lexer.specs.Lex as rules
 use Rattle.starlark_lexer.proofs.Depth.{one_depth}
 use Rattle.starlark_cutting.specs.Spelling as plain

@@ -3,7 +3,7 @@ use Rattle.std.proofs.Common.{◌≡◌, ℕ, ◌+◌, true, false, List, [], �
 use Rattle.std.specs.Prelude.{count_by}
 use Rattle.starlark_lexer.specs.Items.{Lexeme, Item, item, nothing, newline, dedents, with_items, fstring_expr_start, fstring_text, opening_item, closing_item}
 use Rattle.starlark_lexer.specs.Widths.{Closes}
-use Rattle.starlark_lexer.specs.Lex.{Mode, Past, Lex, start}
+use Rattle.starlark_lexer.specs.Lex.{Mode, Lex, start}
 use Rattle.starlark_lexer.specs.Lex as rules
 use Rattle.starlark_lexer.proofs.Widths.{no_lines}
 use Rattle.starlark_cutting.specs.Cutting.{inner, IsCutAt}

@@ -5,7 +5,7 @@ use Rattle.std.proofs.lemmas.Bool.Decides.{nat_tests}
 use Rattle.starlark_lexer.specs.Items.{Item, newline}
 use Rattle.starlark_lexer.specs.Widths.{IsOpen, Closes, has}
 use Rattle.starlark_lexer.specs.Classes.{leading, width, has_tab, spaces}
-use Rattle.starlark_lexer.specs.Lex.{Past, Step, Lex, on, goes_on, fitted, IsBalanced}
+use Rattle.starlark_lexer.specs.Lex.{Past, Step, on, goes_on, fitted}
 use Rattle.starlark_lexer.specs.Lex as rules
 use Rattle.starlark_cutting.specs.Cutting.{IsCutAt, IsFilled, blanks_of}
 use Rattle.starlark_lexer.proofs.Widths.{IsStack, no_lines}

@@ -1,7 +1,6 @@
 -- The step whose item ends where what is kept of a text ends: it is one there where a blank or a line feed stands behind.
-use Rattle.std.proofs.Common.{◌≡◌, ◌<◌, ◌≤◌, ℕ, ◌+◌, ◌-◌, Bool, true, false, List, [], ◌∷◌, ◌++◌, length, take, drop, refl, ap, sym, ◌∙◌, arith, zero, suc, inl, inr, eqb, subst}
+use Rattle.std.proofs.Common.{◌≡◌, ◌<◌, ◌≤◌, ℕ, ◌+◌, ◌-◌, Bool, false, List, [], ◌∷◌, ◌++◌, length, take, drop, refl, ap, sym, ◌∙◌, arith, zero, suc, inl, inr, eqb, subst}
 use Rattle.std.specs.Prelude.{Option, Some, None}
-use Rattle.std.proofs.lemmas.Bool.{false≢true}
 use Rattle.std.proofs.lemmas.List.{drop-append-le, drop_all}
 use Rattle.starlark_lexer.specs.declared.literal.Form.{Form}
 use Rattle.starlark_lexer.specs.declared.literal.Ending.{Ending}
@@ -13,7 +12,7 @@ use Rattle.starlark_lexer.specs.Items.{Lexeme, Item, dedents, fstring_end}
 use Rattle.starlark_lexer.specs.Literals.{body, read, by_piece, piece, mark, later, quotes, value, is_format}
 use Rattle.starlark_lexer.specs.Depth.{Bracket}
 use Rattle.starlark_lexer.specs.Classes.{Meaning, meaning, token, opens, IsLexeme}
-use Rattle.starlark_lexer.specs.Lex.{Mode, Past, Move, Step, on, over, mode_behind, is_inside, below, gives, turns, literal_lexeme, IsPlain}
+use Rattle.starlark_lexer.specs.Lex.{Mode, Past, Move, Step, on, over, mode_behind, below, gives, turns, literal_lexeme, IsPlain}
 use Rattle.starlark_lexer.specs.Lex as rules
 use Rattle.starlark_cutting.specs.Cutting.{inner}
 use Rattle.starlark_cutting.proofs.Clean.{stop_none}
@@ -132,35 +131,3 @@ leaves_ends p b g rest f c e = λ u w is at d.
       step = λ o s. behind_all p _ _ u o (quotes g.quote) all (leaves_kept p b g rest u w o f c e is le).1;
       fresh = refl;
     }
-
-abbrev pub Last : Past → List ℕ → Move → Type 0
-Last p rest (on xs q more) = (u v : List ℕ) → rest ≡ u ++ v → q.place ≡ p.place + length u → q.mode ≡ rules.code → one_inner xs ≡ true → Stepped p xs q u v
-Last p rest (over l) = Unit {0}
-
-pub last : {p : Past} {rest : List ℕ} {m : Move} → Step p rest m → Last p rest m
-last (rules.blank_line p rest more f e) = λ u v is at c i. absurd (false≢true i)
-last (rules.remark_line p rest more f e) = λ u v is at c i. absurd (false≢true i)
-last (rules.last_line p rest closed f e c) = tt
-last (rules.tabbed p rest m t) = tt
-last (rules.deepens p rest m t d) = λ u v is at c i. absurd (false≢true i)
-last (rules.fits p rest closed m t o d) = λ u v is at c i. absurd (false≢true (sym (dedents_not p.place (length closed)) ∙ i))
-last (rules.misfits p rest m t d o) = tt
-last (rules.passes p b rest f c d) = λ u v is at e i. absurd (false≢true i)
-last (rules.escapes p rest f c d) = λ u v is at e i. absurd (false≢true i)
-last (rules.joins p rest f d) = λ u v is at e i. absurd (false≢true i)
-last (rules.ends_line p rest f c d) = λ u v is at e i. absurd (false≢true i)
-last (rules.remark p rest f c) = λ u v is at e i. absurd (false≢true i)
-last (rules.lexeme p rest n x v l) = λ u w is at c i. lexeme_ends p rest n x v l u w is at c
-last (rules.faults p rest n e v l) = tt
-last (rules.ends_text p closed f c d) = tt
-last (rules.literal p rest n g k v l t e) = λ u w is at c i. literal_ends p rest n g k v l t e u w is at c
-last (rules.unclosed p rest n g k v l t e) = tt
-last (rules.misspelt p rest n g k m v l t e) = tt
-last (rules.enters p rest n g v l t) = λ u w is at c i. absurd (inside_code p.place g c)
-last (rules.texts p b g rest k f c some e) = λ u w is at d i. absurd (inside_code b g (sym c ∙ code_behind p.mode _ d))
-last (rules.leaves p b g rest f c e) = λ u w is at d i. leaves_ends p b g rest f c e u w is at d
-last (rules.opens_field p b g rest f c e) = λ u w is at d i. absurd (field_code b g [] d)
-last (rules.unfinished p b g rest k f c e) = tt
-last (rules.misspells p b g rest k m f c e) = tt
-last (rules.shuts p b g bs rest f c d) = λ u w is at e i. absurd (inside_code b g e)
-last (rules.bangs p b g bs rest f c d e) = λ u w is at h i. absurd (field_code b g bs (sym c ∙ code_behind p.mode _ h))

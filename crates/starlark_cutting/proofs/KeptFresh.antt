@@ -3,7 +3,7 @@ use Rattle.std.proofs.Common.{◌≡◌, ◌<◌, ◌≤◌, ℕ, ◌+◌, true,
 use Rattle.std.proofs.lemmas.List.{drop-append-le, append-nil}
 use Rattle.starlark_lexer.specs.Items.{Item, item, Lexed, nothing, newline, dedents, with_items}
 use Rattle.starlark_lexer.specs.Widths.{Closes}
-use Rattle.starlark_lexer.specs.Lex.{Mode, Past, Step, Lex, on, goes_on, is_over, start, IsBalanced}
+use Rattle.starlark_lexer.specs.Lex.{Past, Lex, goes_on, is_over, start, IsBalanced}
 use Rattle.starlark_lexer.specs.Lex as rules
 use Rattle.starlark_cutting.specs.Cutting.{IsClosedOff}
 use Rattle.starlark_lexer.proofs.Widths.{IsStack, no_lines}

@@ -8,7 +8,7 @@ use Rattle.starlark_lexer.specs.Items.{Item}
 use Rattle.starlark_lexer.specs.Literals.{body}
 use Rattle.starlark_lexer.specs.Depth.{Bracket}
 use Rattle.starlark_lexer.specs.Classes.{Meaning, is_blank, leading, blanks, escaped, closes_field, IsLexeme}
-use Rattle.starlark_lexer.specs.Lex.{Mode, Past, Move, Step, on, over, is_inside, IsPlain, IsMeasured}
+use Rattle.starlark_lexer.specs.Lex.{Mode, Past, Step, on, is_inside, IsPlain, IsMeasured}
 use Rattle.starlark_lexer.specs.Lex as rules
 use Rattle.starlark_cutting.proofs.KeptBodies.{run_same}
 use Rattle.starlark_cutting.proofs.KeptReads.{Fits}

@@ -1,13 +1,12 @@
 -- A lexeme that is put behind a text with a blank before it, and the line feed that ends the text.
-use Rattle.std.proofs.Common.{◌≡◌, ◌<◌, ℕ, ◌+◌, Bool, cond, true, false, List, [], ◌∷◌, ◌++◌, length, take, drop, refl, ap, sym, ◌∙◌, arith, suc, inl, subst, length-append}
+use Rattle.std.proofs.Common.{◌≡◌, ◌<◌, ℕ, ◌+◌, Bool, cond, true, false, List, [], ◌∷◌, ◌++◌, length, take, refl, ap, sym, ◌∙◌, arith, suc, inl, length-append}
 use Rattle.std.specs.Prelude.{Some, count_by}
-use Rattle.std.proofs.lemmas.List.{drop-append-le, drop_all}
 use Rattle.starlark_lexer.specs.declared.literal.Form.{Form}
-use Rattle.starlark_lexer.specs.Items.{Lexeme, Item, item, Lexed, nothing, newline, dedents, with_items}
+use Rattle.starlark_lexer.specs.Items.{Lexeme, Item, item, nothing, newline, dedents, with_items}
 use Rattle.starlark_lexer.specs.Depth.{Bracket}
 use Rattle.starlark_lexer.specs.Widths.{Closes}
 use Rattle.starlark_lexer.specs.Classes.{meaning, token, IsLexeme}
-use Rattle.starlark_lexer.specs.Lex.{Mode, Past, Move, Step, Lex, on, over, IsPlain, IsBalanced, moved, gives, recorded, mode_behind, is_inside, goes_on, is_over}
+use Rattle.starlark_lexer.specs.Lex.{Mode, Past, Lex, IsPlain, IsBalanced, recorded, mode_behind, is_inside, goes_on, is_over}
 use Rattle.starlark_lexer.specs.Lex as rules
 use Rattle.starlark_lexer.proofs.JoinedOn.{count_cons}
 use Rattle.starlark_cutting.proofs.KeptLines.{Stops, past_none, first_not, unescaped}
@@ -45,22 +44,6 @@ among_plain p (b ∷ w) o n x a some l = record {
 -- what stands behind it
 abbrev pub put_past : Past → ℕ → Lexeme → Past
 put_past p n x = record { place = p.place + 1 + n; items = recorded p.mode (item (p.place + 1 + 0) x (p.place + 1 + 0 + n)) p.items; lines = p.lines; fresh = false; mode = mode_behind p.mode x; outer = p.outer }
-
-pub put_among : (p : Past) (n : ℕ) (x : Lexeme) → Among p → Among (put_past p n x)
-put_among p n x a = record { fresh = refl; mode = ap (λ m. mode_behind m x) a.mode }
-
-pub put : (p : Past) (w o : List ℕ) (x : Lexeme) (m : Lexed) → Among p → 0 < length w → meaning w ≡ Some (token x) → Stops o → Lex (put_past p (length w) x) o m
-    → Lex p (32 ∷ (w ++ o)) (with_items (item (p.place + 1 + 0) x (p.place + 1 + 0 + length w) ∷ []) m)
-put p w o x m a some means stop d =
-    let n = length w in
-    let q : Past = moved p 1 in
-    let l = alone_lexeme w o x some means stop in
-    let b : Among q = record { fresh = refl; mode = a.mode } in
-    let step = rules.lexeme q (w ++ o) n x (among_plain q w o n x b some l) l in
-    let all : drop n (w ++ o) ≡ o = drop-append-le n w o (omega arith) ∙ ap (λ v. v ++ o) (drop_all n w (omega arith)) in
-    let it : Item = item (p.place + 1 + 0) x (p.place + 1 + 0 + n) in
-    goes_on p (32 ∷ (w ++ o)) [] q (w ++ o) (with_items (it ∷ []) m) (rules.passes p 32 (w ++ o) a.fresh (ap is_inside a.mode) refl)
-    (goes_on q (w ++ o) (it ∷ []) (put_past p n x) o m (subst (λ r. Step q (w ++ o) (on (it ∷ []) (put_past p n x) r)) all step) d)
 
 -- the line feed that ends the text, where brackets are balanced
 pub end_line : (p : Past) (closed : List ℕ) → Among p → IsBalanced p → Closes p.lines 0 closed

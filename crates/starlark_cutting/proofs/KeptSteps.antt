@@ -10,7 +10,7 @@ use Rattle.starlark_lexer.specs.Items.{Lexeme, newline, comment, indent, fstring
 use Rattle.starlark_lexer.specs.Literals.{body, quotes, value, is_format}
 use Rattle.starlark_lexer.specs.Widths.{IsOpen, IsDeeper, Closes}
 use Rattle.starlark_lexer.specs.Classes.{closes_field, token, opens, is_blank, leading, has_tab, width, line_end, line_len, escaped, IsLexeme}
-use Rattle.starlark_lexer.specs.Lex.{Mode, Past, Move, Step, on, over, is_inside, recorded, mode_behind, below, moved, gives, deepened, fitted, turns, literal_lexeme}
+use Rattle.starlark_lexer.specs.Lex.{Past, Move, Step, on, over, is_inside, recorded, mode_behind, below, moved, gives, deepened, fitted, turns, literal_lexeme}
 use Rattle.starlark_lexer.specs.Lex as rules
 use Rattle.starlark_lexer.proofs.Ordered.{inside, len_most, end_most, escaped_most}
 use Rattle.starlark_cutting.proofs.KeptReads.{Fits, body_same, body_once}

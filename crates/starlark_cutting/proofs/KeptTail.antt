@@ -7,7 +7,7 @@ use Rattle.starlark_lexer.specs.declared.literal.Ending.TheVariants as ending
 use Rattle.starlark_lexer.specs.Items.{comment, Item, item, opening_item, closing_item}
 use Rattle.starlark_lexer.specs.Literals.{quotes}
 use Rattle.starlark_lexer.specs.Classes.{is_blank, leading, line_end, line_len, escaped}
-use Rattle.starlark_lexer.specs.Lex.{Mode, Past, Move, Step, on, over, moved, is_inside, IsBalanced, IsMeasured}
+use Rattle.starlark_lexer.specs.Lex.{Past, Move, Step, on, over, moved, is_inside, IsBalanced, IsMeasured}
 use Rattle.starlark_lexer.specs.Lex as rules
 use Rattle.starlark_lexer.proofs.Ordered.{inside, escaped_most}
 use Rattle.starlark_cutting.specs.Cutting.{tokens_of}

@@ -6,12 +6,11 @@ use Rattle.starlark_lexer.specs.Items.{Item, item, Lexed, newline, dedent, deden
 use Rattle.starlark_lexer.specs.Lex.{Past, Move, Step, Lex, on, over, goes_on, is_over, start}
 use Rattle.starlark_lexer.specs.Lex as rules
 use Rattle.starlark_cutting.specs.Cutting.{inner}
-use Rattle.starlark_lexer.specs.Joining.{open_behind}
 use Rattle.starlark_cutting.proofs.KeptSteps.{goes}
 use Rattle.starlark_cutting.proofs.KeptMoves.{Fresh}
 use Rattle.starlark_cutting.proofs.KeptTracks.{tracks}
 use Rattle.starlark_cutting.proofs.KeptFinal.{one_inner}
-use Rattle.starlark_cutting.proofs.KeptCut.{Upto, here, there, Cut, cut}
+use Rattle.starlark_cutting.proofs.KeptCut.{Upto, here, there}
 use Rattle.starlark_lexer.proofs.Joined.{Nest}
 
 -- items end behind a place
@@ -151,10 +150,3 @@ upto (goes_on p rest xs q more l step d) zs z ys e i fr nest =
           subst (λ w. Upto p rest w z.end) a.is (subst (Upto p rest xs) (sym a.end) (here p rest xs q more step a.one))
     ]
 upto (is_over p rest l step) zs z ys e i fr nest = absurd (false≢true (sym (no_items step zs z ys e) ∙ i))
-
--- ---- a text
-
--- A text cut off behind a lexeme that leaves no f-string open.
-pub cut_text : (text : List ℕ) (l : Lexed) → Lex start text l → (zs : List Item) (z : Item) (ys : List Item) → l.items ≡ zs ++ z ∷ ys → inner z.lexeme ≡ true → open_behind 0 (zs ++ z ∷ []) ≡ 0
-    → (u v : List ℕ) → text ≡ u ++ v → length u ≡ z.end → Cut start u v (zs ++ z ∷ [])
-cut_text text l d zs z ys e i shut u v is len = cut (upto d zs z ys e i (λ _. refl) tt) u v is (omega (arith, len)) shut tt (λ _. refl)

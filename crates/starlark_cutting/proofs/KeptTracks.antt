@@ -11,7 +11,7 @@ use Rattle.starlark_lexer.specs.Items.{Lexeme, newline, comment, indent, dedent,
 use Rattle.starlark_lexer.specs.Literals.{quotes, value}
 use Rattle.starlark_lexer.specs.Classes.{leading, width, escaped, line_len, line_end}
 use Rattle.starlark_lexer.specs.Widths.{IsOpen, IsDeeper, Closes}
-use Rattle.starlark_lexer.specs.Lex.{Mode, Past, Move, Step, on, over, recorded, mode_behind, below, moved, gives, deepened, fitted, turns, literal_lexeme}
+use Rattle.starlark_lexer.specs.Lex.{Mode, Past, Move, Step, on, over, recorded, mode_behind, below, moved, literal_lexeme}
 use Rattle.starlark_lexer.specs.Lex as rules
 use Rattle.starlark_cutting.specs.Cutting.{indent_item}
 use Rattle.starlark_lexer.specs.Joining.{nested, outside, open_behind, is_indent, is_dedent, dedent_item}

@@ -7,7 +7,7 @@ use Rattle.starlark_lexer.specs.Lex.{Mode, Past, Step, Lex, on, goes_on, is_insi
 use Rattle.starlark_lexer.specs.Lex as rules
 use Rattle.starlark_lexer.specs.Literals.{is_format}
 use Rattle.starlark_lexer.proofs.Joined.{Nest}
-use Rattle.starlark_cutting.specs.Opened.{Way, outside, in_field, in_text, is_text}
+use Rattle.starlark_cutting.specs.Opened.{Way, outside, in_field, in_text}
 use Rattle.starlark_cutting.specs.Opened as opened
 use Rattle.starlark_cutting.proofs.KeptMoves.{Fresh}
 use Rattle.starlark_cutting.proofs.KeptTracks.{Tracks, tracks}

@@ -98,10 +98,6 @@ list_member (w_typed_right w l t q) d = g.loose_test d
 list_member (w_return w) d = g.loose_test d
 list_member (w_target w) d = g.target d
 
-pub next_members : {T a c d : List Item} {k : Lists} {ms : Members} {e : ℕ} {q : Expr} → WaitsNext T k a c ms → Level (level_of (kind_listed k)) c d q e → g.Members (kind_listed k) a d (tree.more ms (tree.item q)) e
-next_members (w_list w ms) d = one_more ms (list_member w d)
-next_members (w_left w ms) d = g.next ms (g.loose_test d)
-
 pub next_comma : {T a c d : List Item} {k : Lists} {ms : Members} {i j e : ℕ} {q : Expr} → WaitsNext T k a c ms → Level (level_of (kind_listed k)) c (item i comma j ∷ d) q e → WaitsNext T k a d (tree.more ms (tree.item q))
 next_comma (w_list w ms) d = w_list w (comma_behind (one_more ms (list_member w d)) refl)
 next_comma (w_left w ms) d = w_left w (g.next ms (g.loose_test d))

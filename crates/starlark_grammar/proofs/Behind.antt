@@ -5,7 +5,7 @@ use Rattle.starlark_lexer.specs.declared.dialect.Dialect.{Dialect}
 use Rattle.starlark_ast.specs.Tree.{Statement}
 use Rattle.starlark_rulebook.specs.Rules.{Finding}
 use Rattle.starlark_grammar.specs.Events.{Event, assigned, end_finding, breaks_at_once, looped, shaped, typed}
-use Rattle.starlark_grammar.specs.Grammar.{nothing, Derives}
+use Rattle.starlark_grammar.specs.Grammar.{Derives}
 use Rattle.starlark_grammar.specs.Marks.{Mark, mark, marked, marks_in, Has, Late, Clean}
 use Rattle.starlark_grammar.specs.Frames.{State}
 use Rattle.starlark_grammar.specs.Machine.{step}
@@ -14,8 +14,7 @@ use Rattle.starlark_grammar.specs.Completion.{completion}
 use Rattle.starlark_grammar.specs.Verdicts.{broken_at, Verdict, Unexpected, Broken, settle, answer, judge, next_lexeme}
 use Rattle.starlark_grammar.specs.Language.{IsViable, HasEnded}
 use Rattle.starlark_grammar.proofs.Steps.{arrive, runs, runs_end}
-use Rattle.starlark_grammar.proofs.Waiting.{w_outer, Holds, h_line}
-use Rattle.starlark_grammar.proofs.Sound.{move_holds, held_is, sound}
+use Rattle.starlark_grammar.proofs.Sound.{sound}
 use Rattle.starlark_grammar.proofs.Reading.{marks_note, Reads, steps}
 use Rattle.starlark_grammar.proofs.Complete.{complete}
 use Rattle.starlark_grammar.proofs.Closing.{completion_ends}
@@ -35,10 +34,6 @@ late_append c n (mark m e ∷ ns) ms f l = (inl f.0, late_append c n ns ms f.2 l
 pub clean_append : (c : Dialect) (n : ℕ) (ns ms : List Mark) → Far c n ns → Clean c ms → Clean c (ns ++ ms)
 clean_append c n [] ms f l = l
 clean_append c n (mark m e ∷ ns) ms f l = (f.0, clean_append c n ns ms f.2 l)
-
-pub clean_behind : (c : Dialect) (ns ms : List Mark) → Clean c (ns ++ ms) → Clean c ms
-clean_behind c [] ms l = l
-clean_behind c (mark m e ∷ ns) ms l = clean_behind c ns ms l.1
 
 pub clean_has : (c : Dialect) (n : ℕ) (e : Event) (ms : List Mark) → Clean c ms → Has (mark n e) ms → breaks_at_once c e ≡ None
 clean_has c n e [] l h = elim h [ ]
@@ -149,10 +144,6 @@ pub data Path : State → List Item → State → Type 0 where
   no_step : {s : State} → Path s [] s
   a_step : {s u t : State} {x : Item} {w : List Item} → step s x ≡ Some u → Path u w t → Path s (x ∷ w) t
 
-path_holds : {s t : State} {w : List Item} (f : List Item → List Item) → Path s w t → ((ys : List Item) → Holds (f ys) s (w ++ ys)) → (ys : List Item) → Holds (f ys) t ys
-path_holds f no_step h ys = h ys
-path_holds f (a_step {u} {x} e p) h ys = path_holds f p (λ zs. let m = move_holds x.lexeme (h zs) in held_is m e) ys
-
 -- where the machine comes to behind w, with no rule broken on the way
 pub record Past (c : Dialect) (s : State) (w : List Item) : Type 0 where
   pub state : State
@@ -244,10 +235,6 @@ module _ {c : Dialect} {w : List Item} (a : Past c initial w) where
 
   pub derived : (rest : List Item) (raw : Statement) → bottom (run a.state rest) ≡ Accepts raw → Derives (w ++ rest) raw
   derived rest raw e = sound (w ++ rest) raw (a.goes_on rest ∙ e)
-
-  -- what stands behind the state
-  pub held : (ys : List Item) → Holds (w ++ ys) a.state ys
-  held ys = path_holds (λ zs. w ++ zs) a.path (λ zs. h_line (w_outer nothing)) ys
 
   pub viable : IsViable c w
   viable =

@@ -26,10 +26,6 @@ use Rattle.starlark_grammar.proofs.ClosingParts.{NoSuffix, no_suffix, Arrives, n
 from_state : {s u : State} {ts : List Item} → bottom (run s ts) ≡ bottom (run u ts) → Ends u ts → Ends s ts
 from_state e h = record { raw = h.raw; ends = e ∙ h.ends }
 
--- by a step that another state takes too
-as_from : (s u : State) (x : Item) (xs : List Item) → step s x ≡ step u x → Ends u (x ∷ xs) → Ends s (x ∷ xs)
-as_from s u x xs e h = from_state (ap bottom (runs s x xs) ∙ bottom_note (x ∷ xs) (met s (Some x.lexeme)) _ ∙ ap (λ o. bottom (arrive x xs None o)) e ∙ sym (ap bottom (runs u x xs) ∙ bottom_note (x ∷ xs) (met u (Some x.lexeme)) _)) h
-
 -- behind a statement of a block, behind an `if`, behind a suite
 no_else_block : (i : ℕ) (k : Blocks) → NoElse (block_rest i k)
 no_else_block i (outer ss) = tt

@@ -17,7 +17,7 @@ use Rattle.starlark_grammar.specs.Parameters.{Parameter, a_slash, a_star, a_name
 use Rattle.starlark_grammar.specs.Grammar.{Stmt, simple, branches, loops, defines, Tail, only, or_else, or_if, Suite, same_line, indented, Statements, nothing, blank, next_stmt, Derives, whole}
 use Rattle.starlark_grammar.specs.Marks.{Mark, mark, marked, comma_mark, Has, in_level, in_member, in_members, in_listed, in_subscript, in_bound, in_for, in_clauses, in_pieces, in_listing, in_symbol, in_symbols, in_load, in_small, in_smalls, in_simple, in_parameter, in_params, in_parameters, in_result, in_stmt, in_tail, in_suite, in_statements, marks_in}
 use Rattle.starlark_grammar.specs.Ends.{At, ExprAt, AnnotationAt}
-use Rattle.starlark_grammar.proofs.EndsOfExpressions.{Known, Gives, a_token, ◌then◌}
+use Rattle.starlark_grammar.proofs.EndsOfExpressions.{Known, a_token, ◌then◌}
 use Rattle.starlark_grammar.proofs.EndsOfExpressions as e
 use Rattle.starlark_grammar.proofs.EndsOfStatements as s
 use Rattle.starlark_grammar.proofs.EndsOfRules.{FoundAt}

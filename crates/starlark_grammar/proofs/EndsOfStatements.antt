@@ -4,7 +4,7 @@ use Rattle.starlark_place.specs.Place.{Extent}
 use Rattle.starlark_grammar.specs.Spans.{stretch}
 use Rattle.starlark_lexer.specs.Items.{Item}
 use Rattle.starlark_ast.specs.Tree as tree
-use Rattle.starlark_ast.specs.Tree.{Annotation, Expr, Member, Members, Name, Sequence, Stars, Statement, Symbol, Symbols, statement_place}
+use Rattle.starlark_ast.specs.Tree.{Annotation, Member, Members, Name, Sequence, Stars, Statement, Symbol, Symbols, statement_place}
 use Rattle.starlark_grammar.specs.Nodes.{named, first_begin, block_of}
 use Rattle.starlark_grammar.specs.Loads.{OneSymbol, own_name, other_name, SomeSymbols, no_symbol, next_symbol, Load, alone, with_comma, without_comma}
 use Rattle.starlark_grammar.specs.Simple.{Small, returns, returns_it, breaks_off, continues, passes, loads, evaluates, assigns, annotates, Smalls, one_small, next_small, Simple, row, row_semicolon}

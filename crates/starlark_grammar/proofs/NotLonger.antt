@@ -8,10 +8,6 @@ use Rattle.starlark_grammar.proofs.Meeting.{no_some}
 use Rattle.starlark_grammar.proofs.Ranges.{Limits, Laid, no_tokens, a_token}
 use Rattle.starlark_grammar.proofs.RangesOfStatements.{all_unique}
 
-pub order_end : {m : ℕ} {xs : List Item} → InOrder m xs → m ≤ last_end m xs
-order_end no_token = omega arith
-order_end (one_token a b o) = let h = order_end o in omega (arith, a, b, h)
-
 abbrev pub limits : ℕ → ℕ → Limits
 limits n k = record { firm = n; last = k }
 

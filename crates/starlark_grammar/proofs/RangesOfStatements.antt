@@ -2,7 +2,7 @@
 use Rattle.std.proofs.Common.{ℕ, ◌∷◌, [], suc, List, refl, arith, length}
 use Rattle.starlark_lexer.specs.Items.{Item}
 use Rattle.starlark_ast.specs.Tree as tree
-use Rattle.starlark_ast.specs.Tree.{Annotation, Expr, Member, Members, Name, Sequence, Stars, Statement, Symbol, Symbols, place}
+use Rattle.starlark_ast.specs.Tree.{Annotation, Expr, Member, Members, Name, Sequence, Stars, Statement, Symbol, Symbols}
 use Rattle.starlark_grammar.specs.Nodes.{type_at}
 use Rattle.starlark_grammar.specs.Expressions.{Level}
 use Rattle.starlark_grammar.specs.Loads.{OneSymbol, own_name, other_name, SomeSymbols, no_symbol, next_symbol, Load, alone, with_comma, without_comma}

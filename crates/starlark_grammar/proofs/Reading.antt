@@ -146,10 +146,6 @@ settles {s} {p} {k} {ts} e f g h o = quietly (same s (stands p k) e (λ x. f x �
 pub whole_as : {s u v : State} {a b : List Item} {f : List Mark → List Mark} → Reads s a f u b → finish u ≡ finish v → ((x : Item) → step u x ≡ step v x) → ((x : Option Lexeme) → met u x ≡ met v x) → Reads s a f v b
 whole_as {u} {v} {b} p e f g = p >> quietly (same u v e f g b)
 
--- no token
-pub stays : {s s' : State} {ts : List Item} → finish s ≡ finish s' → ((x : Item) → step s x ≡ step s' x) → ((x : Option Lexeme) → met s x ≡ met s' x) → Reads s ts (λ l. l) s' ts
-stays {s} {s'} {ts} e h g = quietly (same s s' e h g ts)
-
 -- no token, at certain tokens
 pub shifts : {s s' : State} {x : Item} {xs : List Item} → met s (Some x.lexeme) ≡ met s' (Some x.lexeme) → step s x ≡ step s' x → Reads s (x ∷ xs) (λ l. l) s' (x ∷ xs)
 shifts {s} {s'} {x} {xs} m e = quietly (runs s x xs ∙ ap (arrive x xs (met s (Some x.lexeme))) e ∙ ap (λ o. arrive x xs o (step s' x)) m ∙ sym (runs s' x xs))

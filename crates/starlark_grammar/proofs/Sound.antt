@@ -223,11 +223,6 @@ move_holds colon (h_result w ps) = holds (h_suite (w_def w ps untyped))
 move_holds minus_greater (h_result w ps) = holds (h_wants (w_spot (w_result w ps)))
 move_holds _ (h_result w ps) = holds_none
 
--- the state that the machine comes to holds
-pub held_is : {T ts : List Item} {o : Option State} {u : State} → Held T ts o → o ≡ Some u → Holds T u ts
-held_is {u} holds_none e = absurd (let n : None ≡ Some u = e in (cc))
-held_is {T} {ts} {u} (holds {s} h) e = subst (λ v. Holds T v ts) (let n : s ≡ u = cc in n) h
-
 accepts_same : (a b : Statement) → Accepts a ≡ Accepts b → a ≡ b
 accepts_same a b e = cc
 

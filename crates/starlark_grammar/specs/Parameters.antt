@@ -3,7 +3,7 @@ use Rattle.std.specs.Prelude.{ℕ, List, ◌∷◌}
 use Rattle.starlark_grammar.specs.Spans.{stretch}
 use Rattle.starlark_lexer.specs.Items.{Item, item, identifier, comma, colon, equal, slash, star, star_star, minus_greater, closing_round}
 use Rattle.starlark_ast.specs.Tree as tree
-use Rattle.starlark_ast.specs.Tree.{Annotation, Expr, Member, Members, Name, Sequence, Stars, Statement, Symbol, Symbols, add_statement, add_symbol, assign, break, continue, define, double_starred, either, expression, load, name_at, no_statements, no_symbols, pass, plain, repeat, return, starred, symbol, when}
+use Rattle.starlark_ast.specs.Tree.{Annotation, Expr, Member, Members, Name, Stars, double_starred, name_at, plain, starred}
 use Rattle.starlark_grammar.specs.Nodes.{named, type_at}
 use Rattle.starlark_grammar.specs.Expressions.{Level}
 

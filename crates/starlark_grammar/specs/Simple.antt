@@ -5,7 +5,7 @@ use Rattle.starlark_grammar.specs.Spans.{stretch}
 use Rattle.starlark_lexer.specs.Items.{Lexeme, Item, item, newline, keyword_break, keyword_continue, keyword_load, keyword_pass, keyword_return, semicolon, colon}
 use Rattle.starlark_ast.specs.declared.ast.AssignOp.{AssignOp}
 use Rattle.starlark_ast.specs.Tree as tree
-use Rattle.starlark_ast.specs.Tree.{Annotation, Expr, Member, Members, Name, Sequence, Stars, Statement, Symbol, Symbols, add_statement, add_symbol, assign, break, continue, define, double_starred, either, expression, load, name_at, no_statements, no_symbols, pass, plain, repeat, return, starred, symbol, when}
+use Rattle.starlark_ast.specs.Tree.{Expr, Name, Sequence, Statement, Symbols, add_statement, assign, break, continue, expression, load, no_statements, pass, return}
 use Rattle.starlark_grammar.specs.Nodes.{block_of, start, type_at}
 use Rattle.starlark_grammar.specs.Tables.{loose, assigner}
 use Rattle.starlark_grammar.specs.Expressions.{Level, Listing}

@@ -1,6 +1,6 @@
 //! Makers of nodes, over any trees.
 
-ghost use Rattle.std.specs.Prelude.{◌≡◌, IfOk, Option, None, string_bytes};
+ghost use Rattle.std.specs.Prelude.{◌≡◌, IfOk, Option, string_bytes};
 ghost use Rattle.starlark_place.specs.Place.{Extent};
 ghost use Rattle.starlark_lexer.specs.Items.{number_of};
 ghost use Rattle.starlark_ast.specs.Tree as tree;

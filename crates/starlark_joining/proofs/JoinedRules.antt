@@ -7,17 +7,13 @@ use Rattle.starlark_rulebook.specs.Kept.{kept_rules, kept_sequence}
 use Rattle.starlark_rulebook.specs.Late.{Standing, at_top_level, statement_rules, sequence_rules, expressions_rules, inner_rules, late_rules}
 use Rattle.starlark_grammar.specs.Nodes.{block_of}
 use Rattle.starlark_grammar.specs.Events.{end_finding}
-use Rattle.starlark_joining.specs.Same.{SameSequence, same_no_statements, same_add_statement}
+use Rattle.starlark_joining.specs.Same.{SameSequence}
 use Rattle.starlark_joining.specs.Joined.{behind}
 use Rattle.starlark_joining.proofs.LikeFindings.{like_empty}
 use Rattle.starlark_joining.proofs.SameKept.{kept_sequence_same}
 use Rattle.starlark_joining.proofs.SameLate.{sequence_rules_same, inner_rules_same}
 
 -- ---- statements behind others
-
-pub behind_same : {R : ℕ → ℕ → Type 0} {a b c g : Sequence} → SameSequence R a b → SameSequence R c g → SameSequence R (behind a c) (behind b g)
-behind_same h same_no_statements = h
-behind_same h (same_add_statement ss s) = same_add_statement (behind_same h ss) s
 
 -- their rules stand behind those of the others
 pub kept_behind : (d : Dialect) (a b : Sequence) → kept_sequence d (behind a b) ≡ kept_sequence d a ++ kept_sequence d b

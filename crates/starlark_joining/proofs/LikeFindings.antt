@@ -2,7 +2,7 @@
 use Rattle.std.proofs.Common.{◌≡◌, ◌∷◌, ◌++◌, [], List, Option, Some, None, Bool, true, false, cond, refl}
 use Rattle.std.specs.Prelude.{not, ◌&&◌, ◌||◌}
 use Rattle.starlark_place.specs.Place.{Extent}
-use Rattle.starlark_rulebook.specs.Rules.{Rule, Finding, breaks, first_of, listed, first_finding}
+use Rattle.starlark_rulebook.specs.Rules.{Rule, Finding, breaks, first_of, listed}
 use Rattle.starlark_rulebook.specs.Parameters.{fault_if}
 use Rattle.starlark_rulebook.specs.Late.{unless}
 
@@ -73,10 +73,6 @@ like_three h k l = like_both (like_both h k) l
 pub like_listed : {a b : Option Finding} → LikeFound a b → LikeFindings (listed a) (listed b)
 like_listed both_none = no_findings
 like_listed both_some = and_finding no_findings
-
-pub like_head : {fs gs : List Finding} → LikeFindings fs gs → LikeFound (first_finding fs) (first_finding gs)
-like_head no_findings = both_none
-like_head (and_finding h) = both_some
 
 pub like_unless : (c : Bool) (r : Rule) (s u : Extent) → LikeFindings (unless c r s) (unless c r u)
 like_unless true r s u = no_findings

@@ -9,7 +9,7 @@ use Rattle.starlark_grammar.specs.Tables.{round, square, curly}
 use Rattle.starlark_grammar.specs.Points as p
 use Rattle.starlark_grammar.specs.Points.{Frame, Point, After, becomes, goes_to, after, turn, opens}
 use Rattle.starlark_grammar.specs.Frames as f
-use Rattle.starlark_grammar.specs.Frames.{Blocks, Ifs, Suites, Rows, Line, Spots, Lists, Frames, State, Head}
+use Rattle.starlark_grammar.specs.Frames.{Blocks, Ifs, Suites, Rows, Line, Spots, Lists, Frames, State}
 use Rattle.starlark_grammar.specs.Machine.{close, end_row, end_small, accept, accept_list, fed, feed, opened, else_state, perhaps, move, tails, goes}
 
 -- where a line may begin, behind a token that ends there

@@ -3,7 +3,7 @@ use Rattle.std.proofs.Common.{ℕ, ◌≡◌, ◌∷◌, ◌++◌, [], refl, ap,
 use Rattle.std.specs.Prelude.{bytes_eq, codes, Result, Ok, Err}
 use Rattle.starlark_place.specs.Place.{Extent}
 use Rattle.starlark_ast.specs.Tree as t
-use Rattle.starlark_ast.specs.Tree.{Leaf, Expr, Member, Members, Name}
+use Rattle.starlark_ast.specs.Tree.{Leaf, Expr, Name}
 use Rattle.starlark_rulebook.specs.Rules.{TypeFault, DotTypeBan}
 use Rattle.starlark_rulebook.specs.Types.{Misfit, misfit, Path, Form, from, from_both, index2_of, root, attributes, dotted_text, dotted, path_of, leaf_form, form_fault}
 use Rattle.starlark_joining.specs.Same.{SameName, same_name, SameExpr, same_leaf, same_dot}

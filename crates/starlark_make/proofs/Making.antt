@@ -8,11 +8,10 @@ use Rattle.std.specs.declared.vec.Vec.{Vec}
 use Rattle.starlark_place.specs.Place.{Extent}
 use Rattle.starlark_place.specs.declared.pos.Spanned.{Spanned}
 use Rattle.starlark_ast.specs.Tree as tree
-use Rattle.starlark_ast.specs.View.{argument_at, boxed_type, clause_view, expr_at, expr_view, for_clause_view, ident_at, members, parameter_at, stmt_at, stmt_view}
+use Rattle.starlark_ast.specs.View.{argument_at, boxed_type, expr_at, expr_view, members, parameter_at, stmt_at, stmt_view}
 use Rattle.starlark_ast.specs.Views.{clauses_of, items_of, expr_view-Call, expr_view-DictComprehension, expr_view-FString, expr_view-Lambda, view-args, view-fstring, view-lambda}
 use Rattle.starlark_ast.specs.StatementViews.{stmt_view-Def, view-def}
 use Rattle.starlark_ast.specs.declared.ast.ArgumentP.{ArgumentP}
-use Rattle.starlark_ast.specs.declared.ast.AssignIdentP.{AssignIdentP}
 use Rattle.starlark_ast.specs.declared.ast.CallArgsP.{CallArgsP}
 use Rattle.starlark_ast.specs.declared.ast.ClauseP.{ClauseP}
 use Rattle.starlark_ast.specs.declared.ast.DefP.{DefP}

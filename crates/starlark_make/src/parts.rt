@@ -1,8 +1,8 @@
 //! Parts of trees.
 
-ghost use Rattle.std.specs.Prelude.{◌≡◌, IfOk, string_bytes};
+ghost use Rattle.std.specs.Prelude.{◌≡◌, IfOk};
 ghost use Rattle.starlark_ast.specs.Tree as tree;
-ghost use Rattle.starlark_ast.specs.View.{comma_at, expr_at, ident_at, stmt_at};
+ghost use Rattle.starlark_ast.specs.View.{comma_at, expr_at, stmt_at};
 ghost use Rattle.starlark_grammar.specs.Made.{sign_of};
 ghost use Rattle.starlark_make.specs.Kept.{boxed_type_at};
 

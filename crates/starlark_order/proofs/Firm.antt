@@ -2,7 +2,7 @@
 use Rattle.std.proofs.Common.{ℕ, ◌≡◌, ◌<◌, ◌+◌, true, false, List, [], ◌∷◌, ◌++◌, length, take, true≢false, arith, zero, suc}
 use Rattle.starlark_lexer.specs.Items.{Lexeme, Item, item, Lexed, dedents, fstring_start, fstring_text, fstring_end}
 use Rattle.starlark_lexer.specs.Literals.{quotes, value}
-use Rattle.starlark_lexer.specs.Lex.{Mode, Past, Move, Step, Lex, on, over, start, gives, turns, goes_on, is_over}
+use Rattle.starlark_lexer.specs.Lex.{Past, Move, Step, Lex, on, over, start, goes_on, is_over}
 use Rattle.starlark_lexer.specs.Lex as rules
 use Rattle.starlark_lexer.proofs.Cuts.{quotes_some}
 use Rattle.starlark_order.specs.Ordered.{HaveBytes}

@@ -10,7 +10,7 @@ use Rattle.std.proofs.lemmas.Bool.{cases_Bool}
 use Rattle.std.proofs.lemmas.List.{append-nil, map-append, take_more}
 use Rattle.std.proofs.lemmas.List.Elements.{All-append, All-cons, All-head, All-nil}
 use Rattle.indexmap.specs.IndexMap.{insert_entry}
-use Rattle.starlark_place.specs.Place.{Extent, File, Holds, file_place}
+use Rattle.starlark_place.specs.Place.{File, Holds, file_place}
 use Rattle.starlark_ast.specs.Tree as t
 use Rattle.starlark_ast.specs.Tree.{Sequence, Statement}
 use Rattle.starlark_ast.specs.View.{stmt_at, symbols}

@@ -1,5 +1,5 @@
 -- What a reading of a text costs.
-use Rattle.std.proofs.Common.{◌≡◌, ◌≢◌, ◌≤◌, ℕ, suc, ◌+◌, ◌*◌, min, List, Option, Some, None, Err, length, refl, subst, arith, ◌∙◌}
+use Rattle.std.proofs.Common.{◌≡◌, ◌≢◌, ◌≤◌, ℕ, suc, ◌+◌, ◌*◌, List, Option, Some, None, Err, length, subst, arith, ◌∙◌}
 use Rattle.starlark_place.specs.Place.{File}
 use Rattle.starlark_lexer.specs.Items.{Lexed}
 use Rattle.starlark_lexer.specs.Lex.{Lex, start}

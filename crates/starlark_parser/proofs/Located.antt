@@ -8,7 +8,7 @@ use Rattle.std.specs.declared.vec.Vec.{Vec}
 use Rattle.std.proofs.lemmas.List.{append-nil, map-append}
 use Rattle.std.proofs.lemmas.List.Elements.{All-append, All-cons, All-head, All-nil, All-tail}
 use Rattle.starlark_place.specs.Place.{Extent, File, FilePlace, Holds, file_place}
-use Rattle.starlark_ast.specs.StatementViews.{statements_of, stmt_view-Assign, stmt_view-AssignModify, stmt_view-Break, stmt_view-Continue, stmt_view-Expression, stmt_view-Load, stmt_view-Pass, stmt_view-Return}
+use Rattle.starlark_ast.specs.StatementViews.{stmt_view-Assign, stmt_view-AssignModify, stmt_view-Break, stmt_view-Continue, stmt_view-Expression, stmt_view-Load, stmt_view-Pass, stmt_view-Return}
 use Rattle.starlark_ast.specs.Tree as t
 use Rattle.starlark_ast.specs.Tree.{Sequence, Statement}
 use Rattle.starlark_ast.specs.View.{stmt_at, stmt_view}

@@ -66,21 +66,6 @@ pub behind_is : (text front : List ℕ) (r : Option (Bor (List ℕ))) (d : Bor (
 behind_is text front None d e h = e ∙ sym (behind_none front text h)
 behind_is text front (Some x) d e h = h.2 ∙ sym (ap (behind front) h.1.1 ∙ behind_front front (drop h.0 text))
 
--- a piece of which nothing is left
-pub unnamed : (list piece rest : List ℕ) → names_in list ≡ names_of (piece ∷ []) ++ names_in rest → length (trim piece) ≡ 0 → names_in list ≡ names_in rest
-unnamed list piece rest h e = h ∙ by (trim piece) e
-  where
-    by : (t : List ℕ) → length t ≡ 0 → cond (not (is_empty t)) (t ∷ []) [] ++ names_in rest ≡ names_in rest
-    by [] q = refl
-    by (x ∷ xs) q = absurd (omega arith)
-
-pub named : (list piece rest : List ℕ) → names_in list ≡ names_of (piece ∷ []) ++ names_in rest → (length (trim piece) ≡ 0 → ⊥) → names_in list ≡ trim piece ∷ names_in rest
-named list piece rest h e = h ∙ by (trim piece) e
-  where
-    by : (t : List ℕ) → (length t ≡ 0 → ⊥) → cond (not (is_empty t)) (t ∷ []) [] ++ names_in rest ≡ t ∷ names_in rest
-    by [] q = absurd (q refl)
-    by (x ∷ xs) q = refl
-
 pub nothing_named : (list : List ℕ) → length list ≡ 0 → names_in list ≡ []
 nothing_named [] e = no_names
 nothing_named (b ∷ bs) e = absurd (omega arith)

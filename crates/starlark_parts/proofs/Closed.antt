@@ -28,9 +28,6 @@ closed text r s t h k m a b c = record {
   not_escaped_cr = λ more e. false≢true (sym c ∙ (three text t m).1 more ((one text r h).0 a ∙ ap (λ w. w ++ 10 ∷ []) e ∙ append_assoc more (92 ∷ 13 ∷ []) (10 ∷ [])));
 }
 
-pub ends : (text : List ℕ) (r : Bool) → Tests r text (10 ∷ []) → IsClosed text → r ≡ true
-ends text r h c = (one text r h).1 c.front c.line_feed
-
 pub no_escape : (text : List ℕ) (s : Bool) → Tests s text (92 ∷ 10 ∷ []) → IsClosed text → s ≡ false
 no_escape text s k c = elim (cases_Bool s) [
   | inr e ↦ e

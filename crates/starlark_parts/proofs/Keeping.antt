@@ -1,16 +1,16 @@
 -- What edits do to the parts that are held.
 use Rattle.std.proofs.Common.{◌≡◌, ◌<◌, ◌≤◌, ℕ, ◌+◌, ◌-◌, suc, List, [], ◌∷◌, ◌++◌, length, take, drop, get_or, set, add-one, length-append, refl, ap, sym, ◌∙◌, arith, subst}
 use Rattle.std.specs.Prelude.{Some, None, sum_by}
-use Rattle.std.specs.List.{All, insert, remove}
+use Rattle.std.specs.List.{insert, remove}
 use Rattle.std.specs.Str.{IsUtf8}
 use Rattle.std.proofs.lemmas.List.{drop-map, get_or-map, length-map, map-append, map-set, take-map}
-use Rattle.std.proofs.lemmas.List.Elements.{All-append, All-cons, All-drop, All-get_or, All-head, All-set, All-tail, All-take, All-weaker}
+use Rattle.std.proofs.lemmas.List.Elements.{All-append, All-cons, All-drop, All-get_or, All-head, All-set, All-tail, All-take}
 use Rattle.std.proofs.lemmas.List.Sums.{count_by-le-length, sum_by-append, sum_by-cons, sum_by-drop_more, sum_by-set, sum_by-take-drop}
 use Rattle.starlark_place.specs.Place.{is_feed}
 use Rattle.starlark_lexer.specs.declared.dialect.Dialect.{Dialect}
 use Rattle.starlark_parts.specs.Edits.{Fits, IsAddressed, IsPartText, Refuses, Takes}
 use Rattle.starlark_parts.specs.Edits as edits
-use Rattle.starlark_parts.specs.Held.{AreParts, IsAbove, IsPart, IsRead, RefusesBytes, all_feeds, text_of, texts_of}
+use Rattle.starlark_parts.specs.Held.{AreParts, IsPart, IsRead, RefusesBytes, all_feeds, text_of, texts_of}
 use Rattle.starlark_parts.specs.Holding.{IsHeld, kept}
 use Rattle.starlark_parts.specs.Kept.{Edit, HasIndex, Kept, edited, joined}
 use Rattle.starlark_parts.specs.Kept as edit
@@ -73,9 +73,6 @@ few_feeds dialect [] h = omega arith
 few_feeds dialect (p ∷ ps) h =
     let part : IsPart dialect p = All-head (IsPart dialect) p ps h in
     omega (arith, sum_by-cons (λ p. p.feeds) p ps, few_feeds dialect ps (All-tail (IsPart dialect) p ps h), part.feeds, count_by-le-length is_feed (text_of p), length-append (text_of p) (joined (texts_of ps)))
-
-pub are_above : (dialect : Dialect) (ps : List Part) → AreParts dialect ps → All IsAbove ps
-are_above dialect ps h = All-weaker (IsPart dialect) IsAbove (λ p part. part.above) ps h
 
 -- ---- an edit with a text, for which there is so much room beside the others
 

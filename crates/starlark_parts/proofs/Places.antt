@@ -61,9 +61,6 @@ last_line-short (x ∷ xs) =
       | inr z ↦ rw z (omega (arith, last_line-short xs))
     ]
 
-pub line_few : (text : List ℕ) (c : Cursor) → IsAt text c → c.line ≤ c.place
-line_few text c h = omega (arith, h.line, count_by-le-length is_feed (take c.place text), length-take-le c.place text h.within)
-
 pub column_few : (text : List ℕ) (c : Cursor) → IsAt text c → c.column ≤ c.place
 column_few text c h =
     omega (arith, h.column, count_by-le-length (λ b. not (is_continuation b)) (last_line (take c.place text)), last_line-short (take c.place text), length-take-le c.place text h.within)

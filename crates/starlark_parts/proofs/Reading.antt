@@ -2,13 +2,13 @@
 use Rattle.std.proofs.Common.{◌≡◌, List, [], ◌∷◌, ◌++◌, ℕ, map, Some, None, refl, ap, sym, ◌∙◌, append_assoc, subst}
 use Rattle.std.specs.Prelude.{IsSome}
 use Rattle.std.specs.List.{All}
-use Rattle.std.proofs.lemmas.List.{append-nil, map-append}
+use Rattle.std.proofs.lemmas.List.{map-append}
 use Rattle.std.proofs.lemmas.List.Elements.{All-head, All-tail}
 use Rattle.starlark_place.specs.declared.resolved.ResolvedPos.{ResolvedPos}
 use Rattle.starlark_ast.specs.Tree.{Statement}
 use Rattle.starlark_ast.specs.View.{stmt_at}
 use Rattle.starlark_parts.specs.Flat.{AreWorded, IsFlat}
-use Rattle.starlark_parts.specs.Outlines.{AreItems, beginning}
+use Rattle.starlark_parts.specs.Outlines.{beginning}
 use Rattle.starlark_parts.specs.Tops.{top_level, word_of}
 use Rattle.starlark_parts.specs.Walk.{Stmt, tops_of}
 use Rattle.starlark_parts.specs.declared.word.OutlineItem.{OutlineItem}
@@ -32,11 +32,6 @@ one_more text tree xs rest others s x h e w b = record {
   words = map-append (λ x. Some x.word) xs (x ∷ []) ∙ (λ i. h.words i ++ sym w i ∷ []) ∙ sym (map-append word_of h.front (stmt_at s ∷ []));
   begins = map-append (λ x. x.begin) xs (x ∷ []) ∙ (λ i. h.begins i ++ b i ∷ []) ∙ sym (map-append (beginning text) h.front (stmt_at s ∷ []));
 }
-
-pub at_last : (text : List ℕ) (tree : Statement) (xs : List OutlineItem) (rest : List Stmt) → SoFar text tree xs rest → rest ≡ [] → AreItems text tree xs
-at_last text tree xs rest h e =
-    let all : h.front ≡ top_level tree = sym (append-nil h.front) ∙ ap (λ r. h.front ++ map stmt_at r) (sym e) ∙ h.split in
-    record { words = h.words ∙ ap (map word_of) all; begins = h.begins ∙ ap (map (beginning text)) all }
 
 middle : (P : Statement → Type 0) (xs ys : List Statement) (x : Statement) → All P (xs ++ x ∷ ys) → P x
 middle P [] ys x h = All-head P x ys h

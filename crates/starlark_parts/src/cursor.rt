@@ -1,6 +1,6 @@
 //! Lines and columns of places of a text, one after another.
 
-ghost use Rattle.std.specs.Prelude.{◌≡◌, ◌<◌, ◌≤◌, ◌+◌, ◌^◌, length};
+ghost use Rattle.std.specs.Prelude.{◌≡◌, ◌<◌, ◌≤◌, ◌+◌, ◌^◌};
 ghost use Rattle.starlark_place.specs.Resolved.{resolved};
 ghost use Rattle.starlark_parts.specs.Cursor.{IsAt, behind};
 

@@ -1,6 +1,6 @@
 //! The statements at the top of all parts.
 
-ghost use Rattle.std.specs.Prelude.{◌≡◌, ◌≤◌, ◌++◌};
+ghost use Rattle.std.specs.Prelude.{◌≡◌, ◌≤◌};
 ghost use Rattle.std.specs.List.{All, flat_map};
 ghost use Rattle.starlark_parts.specs.Held.{IsAbove, all_feeds, outline_from, statements_of};
 ghost use Rattle.starlark_parts.specs.Left.{tops_left};

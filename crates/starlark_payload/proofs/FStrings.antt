@@ -1,5 +1,5 @@
 -- F-strings that stand in no expression: their plain data and their payloads.
-use Rattle.std.proofs.Common.{◌≡◌, sym, ap, ◌∙◌, List, map, string_bytes}
+use Rattle.std.proofs.Common.{◌≡◌, sym, ap, ◌∙◌, map, string_bytes}
 use Rattle.std.proofs.lemmas.List.Folds.{flat_map-map}
 use mathlib.Core.Path.{fun_ext}
 use Rattle.starlark_place.specs.Place.{Extent}

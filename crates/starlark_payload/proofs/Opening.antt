@@ -9,7 +9,7 @@ use Rattle.std.specs.declared.vec.Vec.{Vec}
 use Rattle.starlark_place.specs.declared.pos.Spanned.{Spanned}
 use Rattle.starlark_ast.specs.Tree as tree
 use Rattle.starlark_ast.specs.View.{argument_view, boxed_expr, boxed_type, clause_view, expr_at, expr_view, for_clause_view, members, parameter_of, parameter_view, target_view, type_view}
-use Rattle.starlark_ast.specs.Views.{expr_view-Tuple, expr_view-Call, expr_view-Slice, expr_view-Lambda, expr_view-List, expr_view-Dict, expr_view-ListComprehension, expr_view-DictComprehension, expr_view-FString, parameter_view-Normal, parameter_view-Args, parameter_view-KwArgs, target_view-Tuple, view-args, view-fstring, view-lambda, members-map, clauses-map}
+use Rattle.starlark_ast.specs.Views.{expr_view-Tuple, expr_view-Call, expr_view-Slice, expr_view-Lambda, expr_view-List, expr_view-Dict, expr_view-ListComprehension, expr_view-DictComprehension, expr_view-FString, parameter_view-Normal, target_view-Tuple, view-args, view-fstring, view-lambda, members-map, clauses-map}
 use Rattle.starlark_ast.specs.declared.ast.AssignIdentP.{AssignIdentP}
 use Rattle.starlark_ast.specs.declared.ast.AssignTargetP.{AssignTargetP, fold-roll-AssignTargetP}
 use Rattle.starlark_ast.specs.declared.ast.ClauseP.{ClauseP}
@@ -24,11 +24,10 @@ use Rattle.starlark_ast.specs.declared.ast.ExprP.TheVariants as expr
 use Rattle.starlark_ast.specs.declared.ast.ParameterP.TheVariants as param
 use Rattle.starlark_ast.specs.declared.ast.AssignTargetP.TheVariants as target
 use Rattle.starlark_ast.specs.declared.ast.ArgumentP.TheOpen as layer
-use Rattle.starlark_payload.specs.Around.{annotation_of, both_at, both_view, bound_of, clauses_of, many_view, same_member, stars_of}
+use Rattle.starlark_payload.specs.Around.{annotation_of, both_at, both_view, bound_of, clauses_of, many_view, same_member}
 use Rattle.starlark_payload.specs.Payloads.{OfDef, all_of, argument_payloads, argument_step, assigned_payloads, both_of, call_args_step, clause_payloads, clause_step, expr_payloads, expr_step, for_clause_payloads, for_clause_step, found, fstring_step, lambda_step, maybe_of, parameter_payloads, parameter_step, target_payloads, target_step, type_payloads, type_step}
 use Rattle.starlark_payload.specs.Weights.{argument_weight, argument_weights, both_weight, call_args_weights, clause_weight, clause_weights, expr_weight, expr_weights, for_clause_weight, for_clause_weights, fstring_weights, known, lambda_weights, maybe_weight, node_weight, parameter_weight, parameter_weights, target_weight, target_weights, total, type_weight, type_weights, unboxed}
 use Rattle.starlark_payload.specs.declared.nodes.AroundMany.TheVariants as many
-use Rattle.starlark_payload.specs.declared.nodes.Starred.TheVariants as starred
 
 pub total-map : {X Y : Type 0} (w : Y → ℕ) (f : X → Y) (xs : List X) → total w (map f xs) ≡ total (λ x. w (f x)) xs
 total-map w f [] = refl
@@ -161,25 +160,3 @@ module _ {P L I A D T : Type 0} where
   Normal_weight x None (Some d) = ap parameter_weight (sym (param.rolls-Normal x None (Some d))) ∙ fold-roll-ParameterP P L I A D T _ _ _ _ _ _ _ _ _ _ argument_weights target_weights clause_weights expr_weights parameter_weights call_args_weights fstring_weights for_clause_weights lambda_weights type_weights (layer.Normal x None (Some d))
   Normal_weight x (Some t) None = ap parameter_weight (sym (param.rolls-Normal x (Some t) None)) ∙ fold-roll-ParameterP P L I A D T _ _ _ _ _ _ _ _ _ _ argument_weights target_weights clause_weights expr_weights parameter_weights call_args_weights fstring_weights for_clause_weights lambda_weights type_weights (layer.Normal x (Some t) None)
   Normal_weight x (Some t) (Some d) = ap parameter_weight (sym (param.rolls-Normal x (Some t) (Some d))) ∙ fold-roll-ParameterP P L I A D T _ _ _ _ _ _ _ _ _ _ argument_weights target_weights clause_weights expr_weights parameter_weights call_args_weights fstring_weights for_clause_weights lambda_weights type_weights (layer.Normal x (Some t) (Some d))
-
-  pub Args_view : (x : Spanned (AssignIdentP P L I A D T)) (t : Option (Box (Spanned (TypeExprP P L I A D T)) Global)) → parameter_view (param.Args x t) ≡ parameter_of (stars_of starred.Args) x (annotation_of (option_map (λ y. type_view y.node y.span) (unboxed t))) tree.absent
-  Args_view x t = fun_ext (λ s. parameter_view-Args x t s ∙ ap (λ q. parameter_of tree.starred x q tree.absent s) (annotation_is t))
-
-  pub Args_payloads : (x : Spanned (AssignIdentP P L I A D T)) (t : Option (Box (Spanned (TypeExprP P L I A D T)) Global)) → parameter_payloads (param.Args x t) ≡ assigned_payloads x.node ++ maybe_of type_payloads (unboxed t)
-  Args_payloads x None = ap parameter_payloads (sym (param.rolls-Args x None)) ∙ fold-roll-ParameterP P L I A D T _ _ _ _ _ _ _ _ _ _ argument_step target_step clause_step expr_step parameter_step call_args_step fstring_step for_clause_step lambda_step type_step (layer.ParameterP::Args x None)
-  Args_payloads x (Some t) = ap parameter_payloads (sym (param.rolls-Args x (Some t))) ∙ fold-roll-ParameterP P L I A D T _ _ _ _ _ _ _ _ _ _ argument_step target_step clause_step expr_step parameter_step call_args_step fstring_step for_clause_step lambda_step type_step (layer.ParameterP::Args x (Some t))
-
-  pub Args_weight : (x : Spanned (AssignIdentP P L I A D T)) (t : Option (Box (Spanned (TypeExprP P L I A D T)) Global)) → parameter_weight (param.Args x t) ≡ suc (maybe_weight type_weight (unboxed t))
-  Args_weight x None = ap parameter_weight (sym (param.rolls-Args x None)) ∙ fold-roll-ParameterP P L I A D T _ _ _ _ _ _ _ _ _ _ argument_weights target_weights clause_weights expr_weights parameter_weights call_args_weights fstring_weights for_clause_weights lambda_weights type_weights (layer.ParameterP::Args x None)
-  Args_weight x (Some t) = ap parameter_weight (sym (param.rolls-Args x (Some t))) ∙ fold-roll-ParameterP P L I A D T _ _ _ _ _ _ _ _ _ _ argument_weights target_weights clause_weights expr_weights parameter_weights call_args_weights fstring_weights for_clause_weights lambda_weights type_weights (layer.ParameterP::Args x (Some t))
-
-  pub KwArgs_view : (x : Spanned (AssignIdentP P L I A D T)) (t : Option (Box (Spanned (TypeExprP P L I A D T)) Global)) → parameter_view (param.KwArgs x t) ≡ parameter_of (stars_of starred.KwArgs) x (annotation_of (option_map (λ y. type_view y.node y.span) (unboxed t))) tree.absent
-  KwArgs_view x t = fun_ext (λ s. parameter_view-KwArgs x t s ∙ ap (λ q. parameter_of tree.double_starred x q tree.absent s) (annotation_is t))
-
-  pub KwArgs_payloads : (x : Spanned (AssignIdentP P L I A D T)) (t : Option (Box (Spanned (TypeExprP P L I A D T)) Global)) → parameter_payloads (param.KwArgs x t) ≡ assigned_payloads x.node ++ maybe_of type_payloads (unboxed t)
-  KwArgs_payloads x None = ap parameter_payloads (sym (param.rolls-KwArgs x None)) ∙ fold-roll-ParameterP P L I A D T _ _ _ _ _ _ _ _ _ _ argument_step target_step clause_step expr_step parameter_step call_args_step fstring_step for_clause_step lambda_step type_step (layer.ParameterP::KwArgs x None)
-  KwArgs_payloads x (Some t) = ap parameter_payloads (sym (param.rolls-KwArgs x (Some t))) ∙ fold-roll-ParameterP P L I A D T _ _ _ _ _ _ _ _ _ _ argument_step target_step clause_step expr_step parameter_step call_args_step fstring_step for_clause_step lambda_step type_step (layer.ParameterP::KwArgs x (Some t))
-
-  pub KwArgs_weight : (x : Spanned (AssignIdentP P L I A D T)) (t : Option (Box (Spanned (TypeExprP P L I A D T)) Global)) → parameter_weight (param.KwArgs x t) ≡ suc (maybe_weight type_weight (unboxed t))
-  KwArgs_weight x None = ap parameter_weight (sym (param.rolls-KwArgs x None)) ∙ fold-roll-ParameterP P L I A D T _ _ _ _ _ _ _ _ _ _ argument_weights target_weights clause_weights expr_weights parameter_weights call_args_weights fstring_weights for_clause_weights lambda_weights type_weights (layer.ParameterP::KwArgs x None)
-  KwArgs_weight x (Some t) = ap parameter_weight (sym (param.rolls-KwArgs x (Some t))) ∙ fold-roll-ParameterP P L I A D T _ _ _ _ _ _ _ _ _ _ argument_weights target_weights clause_weights expr_weights parameter_weights call_args_weights fstring_weights for_clause_weights lambda_weights type_weights (layer.ParameterP::KwArgs x (Some t))

@@ -13,10 +13,10 @@ use Rattle.starlark_ast.specs.declared.ast.AssignTargetP.{AssignTargetP, AssignT
 use Rattle.starlark_ast.specs.declared.ast.ClauseP.{ClauseP, ClauseP-F, fold-ClauseP}
 use Rattle.starlark_ast.specs.declared.ast.ExprP.{ExprP, ExprP-F, fold-ExprP}
 use Rattle.starlark_ast.specs.declared.ast.ParameterP.{ParameterP, ParameterP-F, fold-ParameterP}
-use Rattle.starlark_ast.specs.declared.ast.CallArgsP.{CallArgsP, CallArgsP-F, fold-CallArgsP}
+use Rattle.starlark_ast.specs.declared.ast.CallArgsP.{CallArgsP-F}
 use Rattle.starlark_ast.specs.declared.ast.FStringP.{FStringP, FStringP-F, fold-FStringP}
 use Rattle.starlark_ast.specs.declared.ast.ForClauseP.{ForClauseP, ForClauseP-F, fold-ForClauseP}
-use Rattle.starlark_ast.specs.declared.ast.LambdaP.{LambdaP, LambdaP-F, fold-LambdaP}
+use Rattle.starlark_ast.specs.declared.ast.LambdaP.{LambdaP-F}
 use Rattle.starlark_ast.specs.declared.ast.TypeExprP.{TypeExprP, TypeExprP-F, fold-TypeExprP}
 use Rattle.starlark_ast.specs.declared.ast.ArgumentP.TheOpen as layer
 use Rattle.starlark_ast.specs.declared.ast.StmtP.{StmtP, StmtP-F, fold-StmtP}
@@ -141,17 +141,11 @@ module _ {P L I A D T : Type 0} where
   abbrev pub parameter_payloads : ParameterP P L I A D T → List (Payload L I A D T)
   parameter_payloads = fold-ParameterP P L I A D T _ _ _ _ _ _ _ _ _ _ argument_step target_step clause_step expr_step parameter_step call_args_step fstring_step for_clause_step lambda_step type_step
 
-  abbrev pub call_args_payloads : CallArgsP P L I A D T → List (Payload L I A D T)
-  call_args_payloads = fold-CallArgsP P L I A D T _ _ _ _ _ _ _ _ _ _ argument_step target_step clause_step expr_step parameter_step call_args_step fstring_step for_clause_step lambda_step type_step
-
   abbrev pub fstring_payloads : FStringP P L I A D T → List (Payload L I A D T)
   fstring_payloads = fold-FStringP P L I A D T _ _ _ _ _ _ _ _ _ _ argument_step target_step clause_step expr_step parameter_step call_args_step fstring_step for_clause_step lambda_step type_step
 
   abbrev pub for_clause_payloads : ForClauseP P L I A D T → List (Payload L I A D T)
   for_clause_payloads = fold-ForClauseP P L I A D T _ _ _ _ _ _ _ _ _ _ argument_step target_step clause_step expr_step parameter_step call_args_step fstring_step for_clause_step lambda_step type_step
-
-  abbrev pub lambda_payloads : LambdaP P L I A D T → List (Payload L I A D T)
-  lambda_payloads = fold-LambdaP P L I A D T _ _ _ _ _ _ _ _ _ _ argument_step target_step clause_step expr_step parameter_step call_args_step fstring_step for_clause_step lambda_step type_step
 
   abbrev pub type_payloads : TypeExprP P L I A D T → List (Payload L I A D T)
   type_payloads = fold-TypeExprP P L I A D T _ _ _ _ _ _ _ _ _ _ argument_step target_step clause_step expr_step parameter_step call_args_step fstring_step for_clause_step lambda_step type_step

@@ -8,10 +8,10 @@ use Rattle.starlark_ast.specs.declared.ast.AssignTargetP.{AssignTargetP, AssignT
 use Rattle.starlark_ast.specs.declared.ast.ClauseP.{ClauseP, ClauseP-F, fold-ClauseP, out-ClauseP}
 use Rattle.starlark_ast.specs.declared.ast.ExprP.{ExprP, ExprP-F, fold-ExprP, out-ExprP}
 use Rattle.starlark_ast.specs.declared.ast.ParameterP.{ParameterP, ParameterP-F, fold-ParameterP, out-ParameterP}
-use Rattle.starlark_ast.specs.declared.ast.CallArgsP.{CallArgsP, CallArgsP-F, fold-CallArgsP}
-use Rattle.starlark_ast.specs.declared.ast.FStringP.{FStringP, FStringP-F, fold-FStringP}
+use Rattle.starlark_ast.specs.declared.ast.CallArgsP.{CallArgsP, CallArgsP-F}
+use Rattle.starlark_ast.specs.declared.ast.FStringP.{FStringP, FStringP-F}
 use Rattle.starlark_ast.specs.declared.ast.ForClauseP.{ForClauseP, ForClauseP-F, fold-ForClauseP}
-use Rattle.starlark_ast.specs.declared.ast.LambdaP.{LambdaP, LambdaP-F, fold-LambdaP}
+use Rattle.starlark_ast.specs.declared.ast.LambdaP.{LambdaP, LambdaP-F}
 use Rattle.starlark_ast.specs.declared.ast.TypeExprP.{TypeExprP, TypeExprP-F, fold-TypeExprP}
 use Rattle.starlark_ast.specs.declared.ast.ArgumentP.TheOpen as layer
 use Rattle.starlark_payload.specs.declared.nodes.Shape.{Shape}
@@ -181,17 +181,8 @@ module _ {P L I A D T : Type 0} where
   abbrev pub parameter_weight : ParameterP P L I A D T → ℕ
   parameter_weight = fold-ParameterP P L I A D T _ _ _ _ _ _ _ _ _ _ argument_weights target_weights clause_weights expr_weights parameter_weights call_args_weights fstring_weights for_clause_weights lambda_weights type_weights
 
-  abbrev pub call_args_weight : CallArgsP P L I A D T → ℕ
-  call_args_weight = fold-CallArgsP P L I A D T _ _ _ _ _ _ _ _ _ _ argument_weights target_weights clause_weights expr_weights parameter_weights call_args_weights fstring_weights for_clause_weights lambda_weights type_weights
-
-  abbrev pub fstring_weight : FStringP P L I A D T → ℕ
-  fstring_weight = fold-FStringP P L I A D T _ _ _ _ _ _ _ _ _ _ argument_weights target_weights clause_weights expr_weights parameter_weights call_args_weights fstring_weights for_clause_weights lambda_weights type_weights
-
   abbrev pub for_clause_weight : ForClauseP P L I A D T → ℕ
   for_clause_weight = fold-ForClauseP P L I A D T _ _ _ _ _ _ _ _ _ _ argument_weights target_weights clause_weights expr_weights parameter_weights call_args_weights fstring_weights for_clause_weights lambda_weights type_weights
-
-  abbrev pub lambda_weight : LambdaP P L I A D T → ℕ
-  lambda_weight = fold-LambdaP P L I A D T _ _ _ _ _ _ _ _ _ _ argument_weights target_weights clause_weights expr_weights parameter_weights call_args_weights fstring_weights for_clause_weights lambda_weights type_weights
 
   abbrev pub type_weight : TypeExprP P L I A D T → ℕ
   type_weight = fold-TypeExprP P L I A D T _ _ _ _ _ _ _ _ _ _ argument_weights target_weights clause_weights expr_weights parameter_weights call_args_weights fstring_weights for_clause_weights lambda_weights type_weights

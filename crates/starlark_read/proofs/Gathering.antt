@@ -156,9 +156,6 @@ fold_push g z (y ∷ xs) x = fold_push g (g z y) xs x
 pub one_more : {X : Type 0} (h : X → tree.Member) (xs : List X) (x : X) → members h (xs ++ x ∷ []) ≡ tree.more (members h xs) (h x)
 one_more h xs x = fold_push (λ ms y. tree.more ms (h y)) tree.none xs x
 
-pub is_filled : {X : Type 0} (h : X → tree.Member) (xs : List X) (x : X) → members h (xs ++ x ∷ []) ≢ tree.none
-is_filled h xs x e = absurd (let w : tree.more (members h xs) (h x) ≡ tree.none = sym (one_more h xs x) ∙ e in (cc))
-
 pub first_kept : (ms : tree.Members) (f i : ℕ) → ms ≢ tree.none → first_at ms f i ≡ f
 first_kept tree.none f i n = absurd (n refl)
 first_kept (tree.more ms m) f i n = refl
@@ -172,15 +169,6 @@ placed {s} b a n h w = h ∙ ap (λ z. stretch z n) w
 
 pub no_colon : {d : Dialect} (b : ℕ) (ms : tree.Members) (f g : ℕ) (q : tree.Expr) (k : Frames) (ts : Left) → first_lexeme ts.items ≢ Some colon → Sticks d (stands (key_read b ms f g q) k) ts ts
 no_colon b ms f g q k ts n = stops (stands (key_read b ms f g q) k) ts refl refl (λ x xs w. ap (λ o. else_state (to k o) None) (other _ None colon x.lexeme (refl, refl) (not_next ts x xs colon n w)))
-
--- what is known of an optional result
-pub found_none : {S : Type 0} (A : Type 0) (F : S → Type 0) (o : Option S) → o ≡ None → MatchOption o A F → A
-found_none A F None e h = h
-found_none A F (Some s) e h = absurd (let n : Some s ≡ None = e in (cc))
-
-pub found_some : {S : Type 0} (A : Type 0) (F : S → Type 0) (o : Option S) (s : S) → o ≡ Some s → MatchOption o A F → F s
-found_some {S} A F None s e h = absurd (let n : None ≡ Some s = e in (cc))
-found_some {S} A F (Some z) s e h = let q : z ≡ s = cc in subst F q h
 
 pub found_true : (A B : Type 0) (b : Bool) → b ≡ true → MatchBool b A B → A
 found_true A B true e h = h

@@ -1,7 +1,7 @@
 -- Steps of the machine in f-strings.
 use Rattle.std.proofs.Common.{◌≡◌, ◌≢◌, ℕ, List, [], ◌∷◌, ◌++◌, Option, Some, None, true, false, not, cond, Bor, MatchOption, refl, ap, sym, subst, ◌∙◌, length}
 use Rattle.starlark_place.specs.Place.{Extent}
-use Rattle.starlark_lexer.specs.Items.{Lexeme, Item, item, fstring_start, fstring_text, fstring_expr_start, fstring_bang, fstring_expr_end, fstring_end}
+use Rattle.starlark_lexer.specs.Items.{Lexeme, Item, item, fstring_text, fstring_expr_start, fstring_bang, fstring_expr_end, fstring_end}
 use Rattle.starlark_lexer.specs.declared.dialect.Dialect.{Dialect}
 use Rattle.starlark_ast.specs.Tree as tree
 use Rattle.starlark_rulebook.specs.Rules.{FStringConversion, breaks}
@@ -11,21 +11,13 @@ use Rattle.starlark_grammar.specs.Sorts.{is_some, name_of, text_of}
 use Rattle.starlark_grammar.specs.Spans.{stretch}
 use Rattle.starlark_grammar.specs.Tables.{conversion, doubled, field_format}
 use Rattle.starlark_grammar.specs.Points.{field, piece_wanted, letter_wanted, letter_read, Outcome, reach, on_some}
-use Rattle.starlark_grammar.specs.Frames.{Frames, tail, inside, State, has, stands, wants}
-use Rattle.starlark_grammar.specs.Machine.{goes as to, else_state, move}
+use Rattle.starlark_grammar.specs.Frames.{Frames, inside, State, has, stands, wants}
+use Rattle.starlark_grammar.specs.Machine.{goes as to, else_state}
 use Rattle.starlark_grammar.specs.Verdicts.{Broken, converts, some_converts}
 use Rattle.starlark_read.specs.Reads.{Left, first_lexeme, Passes, Goes, Sticks, Answers}
-use Rattle.starlark_read.specs.Gathered.{is_quoted, quoted_ahead, text_ahead, converted, conversion_ahead}
+use Rattle.starlark_read.specs.Gathered.{text_ahead, converted, conversion_ahead}
 use Rattle.starlark_read.proofs.Exits.{goes, goes_past, broken, state_is, stops, not_next}
 use Rattle.starlark_read.proofs.Gathering.{other}
-
--- it begins
-pub quoted : {d : Dialect} (k : Frames) (y : Lexeme) (ts us : Left) → quoted_ahead ts.items ≡ true → Passes ts (item (start ts.items) y us.last) us → Goes d (wants 0 k) ts (stands (piece_wanted (start ts.items) [] tree.none) (tail 0 k)) us
-quoted k y ts us h p = goes p refl (one y (sym (ap quoted_ahead p.items) ∙ h))
-  where
-    one : (y : Lexeme) → is_quoted y ≡ true → move (wants 0 k) y (start ts.items) us.last ≡ Some (stands (piece_wanted (start ts.items) [] tree.none) (tail 0 k))
-    one (fstring_start q) h = refl
-    one _ h = absurd (cc)
 
 pub text_read : {d : Dialect} (b : ℕ) (f t : List ℕ) (ms : tree.Members) (k : Frames) (ts us : Left) → Passes ts (item (start ts.items) (fstring_text t) us.last) us → Goes d (stands (piece_wanted b f ms) k) ts (stands (piece_wanted b (f ++ doubled t) ms) k) us
 text_read b f t ms k ts us p = goes p refl refl
@@ -114,6 +106,3 @@ letter_from {b = b} {f = f} {ms = ms} {q = q} {j = j} {k = k} g h w = state_is h
 
 pub string_from : {d : Dialect} {s : State} {ts us : Left} {i : ℕ} {k : Frames} (g : ℕ) → Goes d s ts (stands (piece_wanted i [] tree.none) k) us → g ≡ i → Goes d s ts (stands (piece_wanted g [] tree.none) k) us
 string_from {k = k} g h w = state_is h (ap (λ z. stands (piece_wanted z [] tree.none) k) (sym w))
-
-pub doubled_as : (f g u t : List ℕ) → g ≡ f ++ doubled u → u ≡ t → g ≡ f ++ doubled t
-doubled_as f g u t h w = h ∙ ap (λ z. f ++ doubled z) w

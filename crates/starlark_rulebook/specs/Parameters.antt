@@ -2,7 +2,7 @@
 use Rattle.std.specs.Prelude.{ℕ, suc, ◌&&◌, ◌||◌, not, nat_lt, if◌then◌else◌, List, [], ◌∷◌, ◌++◌, Option, Some, None, Bool, true, false, bytes_eq}
 use Rattle.starlark_place.specs.Place.{Extent, merged, merged_all}
 use Rattle.starlark_ast.specs.Tree as t
-use Rattle.starlark_ast.specs.Tree.{Stars, Member, Members, Bound, Annotation, Name, place}
+use Rattle.starlark_ast.specs.Tree.{Stars, Member, Members, Bound, place}
 use Rattle.starlark_rulebook.specs.Rules.{TooManyParameters, SlashFirst, DuplicatedName, AfterKwargs, RequiredAfterOptional, ArgsAgain, MultipleSlash, KwargsAgain, StarLast, StarNotNamed, Finding, breaks, first_of}
 use Rattle.starlark_rulebook.specs.Calls.{any}
 

@@ -6,7 +6,7 @@ use Rattle.starlark_lexer.specs.declared.dialect.DialectTypes.{DialectTypes}
 use Rattle.starlark_lexer.specs.declared.dialect.DialectTypes.TheVariants.{Disable}
 use Rattle.starlark_ast.specs.declared.ast.BinOp.TheVariants.{BitOr}
 use Rattle.starlark_ast.specs.Tree as t
-use Rattle.starlark_ast.specs.Tree.{Leaf, Sign, Expr, Member, Members, Name, Annotation, place}
+use Rattle.starlark_ast.specs.Tree.{Leaf, Sign, Expr, Member, Members, Name, place}
 use Rattle.starlark_rulebook.specs.Rules.{TypeFault, InvalidType, EmptyListInType, DotInType, ExpectingPath, DotTypeBan, TypesDisabled, TypeForm, Finding, breaks}
 
 -- why an expression is no type, and where

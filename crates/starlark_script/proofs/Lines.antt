@@ -1,11 +1,10 @@
 -- Lines, words and numbers.
-use Rattle.std.proofs.Common.{◌≡◌, ℕ, ◌+◌, ◌-◌, ◌*◌, ◌<◌, ◌≤◌, length, get_or, set, true, false, None, Some, List, [], ◌∷◌, ◌++◌, take, drop, refl, sym, ◌∙◌, ap, take_all, arith, nat_eq, drop-cons, add-one}
-use Rattle.std.specs.List.{list_all}
+use Rattle.std.proofs.Common.{◌≡◌, ℕ, ◌+◌, ◌-◌, ◌*◌, ◌<◌, ◌≤◌, length, get_or, set, false, None, Some, List, [], ◌∷◌, ◌++◌, take, drop, refl, sym, ◌∙◌, ap, take_all, arith, nat_eq, drop-cons, add-one}
 use Rattle.std.proofs.lemmas.List.{take-append-drop, take_more, take_more_set}
 use Rattle.std.proofs.lemmas.Bool.Decides.{nat_tests}
 use Rattle.std.proofs.lemmas.Bool.{cases_Bool}
 use Rattle.std.proofs.Common.{inl, inr}
-use Rattle.starlark_script.specs.Script.{value_from, number_of, is_digit, spells, command_of, words, onto_first, first_line, behind}
+use Rattle.starlark_script.specs.Script.{value_from, number_of, spells, command_of, words, onto_first, first_line, behind}
 
 -- x does not stand there
 abbrev pub No : ℕ → List ℕ → Type 0

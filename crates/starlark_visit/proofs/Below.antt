@@ -1,5 +1,5 @@
 -- The expressions below those of a statement's own, by variant.
-use Rattle.std.proofs.Common.{◌≡◌, refl, sym, ap, ◌∙◌, List, [], ◌∷◌, ◌++◌, map, flat_map}
+use Rattle.std.proofs.Common.{◌≡◌, sym, ap, ◌∙◌, [], ◌++◌, flat_map}
 use Rattle.std.proofs.lemmas.List.Folds.{flat_map-map}
 use Rattle.std.specs.declared.alloc.Global.{Global}
 use Rattle.std.specs.declared.boxed.Box.{Box}
@@ -11,15 +11,6 @@ use Rattle.starlark_ast.specs.declared.ast.ForP.{ForP, out-ForP, roll-out-ForP, 
 use Rattle.starlark_ast.specs.declared.ast.StmtP.{StmtP, StmtP-F, out-StmtP, roll-StmtP, roll-out-StmtP, para-roll-StmtP}
 use Rattle.starlark_ast.specs.declared.ast.StmtP.TheOpen as stmt
 use Rattle.starlark_ast.specs.declared.ast.StmtP.TheVariants as variant
-
--- a list of calls, one a place
-pub singles-map : {A B : Type 0} (h : A → B) (xs : List A) → flat_map (λ x. h x ∷ []) xs ≡ map h xs
-singles-map h [] = refl
-singles-map h (x ∷ xs) = ap (λ ys. h x ∷ ys) (singles-map h xs)
-
-pub no_more : {A : Type 0} (xs : List A) → xs ++ [] ≡ xs
-no_more [] = refl
-no_more (x ∷ xs) = ap (λ ys. x ∷ ys) (no_more xs)
 
 module _ {P L I A D T : Type 0} where
   pub inner-Statements : (xs : Vec (S P L I A D T) Global) → inner_exprs (variant.Statements xs) ≡ flat_map (λ x. outer_exprs x.node) xs.items

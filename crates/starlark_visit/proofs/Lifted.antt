@@ -69,24 +69,6 @@ module _ {F G X Y A B E : Type 0} (shown : X → A) (g : Mut F (X × Unit {0}) (
       let both = lift ys p q r h in
       record { told = subst (λ (s : F). CallsAll shown g (value p) xs s) (is both.1) (subst (λ zs. CallsAll shown g (value p) zs (value q)) all both.0) }
 
--- the same where g answers as k does
-module _ {F G X Y A B E : Type 0} (shown : X → A) (g : Mut F (X × Unit {0}) (Result (Unit {0}) E)) (show : Y → B) (k : Mut G (Y × Unit {0}) (Result (Unit {0}) E)) (value : G → F) (name : G → ℕ) (place : B → A) (each : (p q : G) (y : B) (r : Result (Unit {0}) E) → CalledOn show k p y r q → CalledOn shown g (value p) (place y) r (value q) × (name q ≡ name p)) where
-  pass : (ys : List B) (p q : G) (r : Result (Unit {0}) E) → CallsUntil show k p ys r q → CallsUntil shown g (value p) (flat_map (λ y. place y ∷ []) ys) r (value q) × (name q ≡ name p)
-  pass [] p q r h = ((h.0, ap value h.1), ap name (sym h.1))
-  pass (y ∷ ys) p q r h =
-      elim h [
-        | inl c ↦ (let one = each p c.0 y (Ok tt) c.1 in let others = pass ys c.0 q r c.2 in (inl (value c.0, one.0, others.0), others.1 ∙ one.1))
-        | inr c ↦ (let one = each p q y (Err c.0) c.1 in (inr (c.0, one.0, c.2), one.1))
-      ]
-
-  pub passed : (ys : List B) {xs : List A} {p q : G} (r : Result (Unit {0}) E) (last : F) → CallsUntil show k p ys r q → (name q ≡ name p → value q ≡ last) → flat_map (λ y. place y ∷ []) ys ≡ xs → StopsAtErr shown g (value p) xs r last
-  passed ys {xs} {p} {q} r last h is all =
-      let both = pass ys p q r h in
-      record { told = subst (λ (s : F). CallsUntil shown g (value p) xs r s) (is both.1) (subst (λ zs. CallsUntil shown g (value p) zs r (value q)) all both.0) }
-
 -- the same, told first what k did
-pub passed_on : {F G X Y A B E : Type 0} {show : Y → B} {k : Mut G (Y × Unit {0}) (Result (Unit {0}) E)} {ys : List B} {p q : G} {r : Result (Unit {0}) E} → StopsAtErr show k p ys r q → (shown : X → A) (g : Mut F (X × Unit {0}) (Result (Unit {0}) E)) (value : G → F) (name : G → ℕ) (place : B → A) (each : (p q : G) (y : B) (r : Result (Unit {0}) E) → CalledOn show k p y r q → CalledOn shown g (value p) (place y) r (value q) × (name q ≡ name p)) {xs : List A} (last : F) → (name q ≡ name p → value q ≡ last) → flat_map (λ y. place y ∷ []) ys ≡ xs → StopsAtErr shown g (value p) xs r last
-passed_on {F} {G} {X} {Y} {A} {B} {E} {show} {k} {ys} {p} {q} {r} h shown g value name place each last is all = passed shown g show k value name place each ys r last h.told is all
-
 pub lifted_on : {F G X Y A B E : Type 0} {show : Y → B} {k : Mut G (Y × Unit {0}) (Result (Unit {0}) E)} {ys : List B} {p q : G} {r : Result (Unit {0}) E} → StopsAtErr show k p ys r q → (shown : X → A) (g : Mut F (X × Unit {0}) (Unit {0})) (value : G → F) (name : G → ℕ) (places : B → List A) (each : (p q : G) (y : B) (r : Result (Unit {0}) E) → CalledOn show k p y r q → (r ≡ Ok tt) × CallsAll shown g (value p) (places y) (value q) × (name q ≡ name p)) {xs : List A} (last : F) → (name q ≡ name p → value q ≡ last) → flat_map places ys ≡ xs → CallsEach shown g (value p) xs last
 lifted_on {F} {G} {X} {Y} {A} {B} {E} {show} {k} {ys} {p} {q} {r} h shown g value name places each last is all = lifted shown g show k value name places each ys r last h.told is all

@@ -41,9 +41,6 @@ module _ {F X A E : Type 0} (show : X → A) (g : Mut F (X × Unit {0}) (Result 
   pub first_taken : {f : F} {x : A} {xs : List A} {y : X} → Takes show g f (x ∷ xs) → show y ≡ x → g.pre f (y, tt)
   first_taken {f} {x} {xs} {y} can is = can.told.0 y is
 
-  pub takes_none : {f : F} → Takes show g f []
-  takes_none = record { told = tt }
-
   pub takes_at : {f : F} {xs ys : List A} → xs ≡ ys → Takes show g f xs → Takes show g f ys
   takes_at {f} {xs} {ys} is can = subst (λ (zs : List A). Takes show g f zs) is can
 

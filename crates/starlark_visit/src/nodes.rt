@@ -1,6 +1,6 @@
 //! Visitors of the nodes right below a statement or an expression.
 
-ghost use Rattle.std.specs.Prelude.{◌≡◌, List, Result, map, Ok, [], ◌∷◌};
+ghost use Rattle.std.specs.Prelude.{◌≡◌, List, Result, map, Ok, []};
 ghost use Rattle.starlark_ast.specs.Calls.{CalledOn, CallsEach, StopsAtErr};
 ghost use Rattle.starlark_ast.specs.Nodes.{below, def_nodes, expression, Node, nodes_below, statement};
 ghost use Rattle.starlark_visit.specs.Steps.{StepsUntil};

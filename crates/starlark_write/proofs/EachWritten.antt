@@ -1,5 +1,5 @@
 -- Calls of a closure that writes and always goes on, one list of places behind another.
-use Rattle.std.proofs.Common.{◌≡◌, refl, sym, ◌∙◌, subst, List, [], ◌∷◌, ◌++◌}
+use Rattle.std.proofs.Common.{◌≡◌, refl, sym, subst, List, [], ◌∷◌, ◌++◌}
 use Rattle.std.specs.Borrow.{MutBor}
 use Rattle.std.specs.Fn.{Called, Mut}
 use Rattle.starlark_write.specs.Writing.{WritesAll, WritesEach}

@@ -8,13 +8,13 @@ use Rattle.std.specs.declared.vec.Vec.{Vec}
 use Rattle.starlark_place.specs.declared.pos.Spanned.{Spanned}
 use Rattle.starlark_ast.specs.Places.{E, maybe_type_place, parameter_places, target_places}
 use Rattle.starlark_ast.specs.Statements.{S, exprs_below, exprs_layer, inner_def, inner_exprs, inner_for, inner_layer, outer_exprs, stmts_below, stmts_layer}
-use Rattle.starlark_ast.specs.declared.ast.DefP.{DefP, DefP-F, out-DefP, roll-DefP, roll-out-DefP, fold-DefP, fold-roll-DefP}
-use Rattle.starlark_ast.specs.declared.ast.ForP.{ForP, ForP-F, out-ForP, roll-ForP, roll-out-ForP, fold-ForP, fold-roll-ForP}
-use Rattle.starlark_ast.specs.declared.ast.StmtP.{StmtP, StmtP-F, out-StmtP, roll-StmtP, roll-out-StmtP, fold-StmtP, fold-roll-StmtP, para-roll-StmtP}
+use Rattle.starlark_ast.specs.declared.ast.DefP.{DefP, out-DefP, roll-DefP, roll-out-DefP, fold-DefP, fold-roll-DefP}
+use Rattle.starlark_ast.specs.declared.ast.ForP.{ForP, out-ForP, roll-ForP, roll-out-ForP, fold-ForP, fold-roll-ForP}
+use Rattle.starlark_ast.specs.declared.ast.StmtP.{StmtP, StmtP-F, out-StmtP, roll-StmtP, roll-out-StmtP, fold-roll-StmtP, para-roll-StmtP}
 use Rattle.starlark_ast.specs.declared.ast.TypeExprP.{TypeExprP}
 use Rattle.starlark_ast.specs.declared.ast.StmtP.TheOpen as layer
 use Rattle.starlark_ast.specs.declared.ast.StmtP.TheVariants as stmt
-use Rattle.starlark_visit.proofs.Below.{HoldsNone, inner-Statements, inner-If, inner-IfElse, inner-For, inner-Def, inner-none}
+use Rattle.starlark_visit.proofs.Below.{HoldsNone, inner-Statements, inner-If, inner-IfElse, inner-For, inner-Def}
 use Rattle.starlark_ast.proofs.Tops.{count, count_def, count_for, count_step}
 use Rattle.starlark_write.specs.Beside as parts
 use Rattle.starlark_write.specs.Beside.{AtPlace, KeepsMaybeType}

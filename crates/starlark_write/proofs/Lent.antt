@@ -1,11 +1,10 @@
 -- What an enum becomes once the only field of its variant is written.
-use Rattle.std.proofs.Common.{◌≡◌, refl, sym, ap, ◌∙◌, subst, ℕ}
+use Rattle.std.proofs.Common.{◌≡◌, sym, ap, ◌∙◌, subst, ℕ}
 use mathlib.Core.Option.{Option, some, none}
 use borrow.Enum.Known.{ValuesAt, at}
 use borrow.Enum.Total.{values_d, values_o, values_o_at}
 use denote.RattleType.{RattleType}
 use Rattle.starlark_ast.specs.contracts.ast.AssignTargetP as targets
-use Rattle.starlark_ast.specs.contracts.ast.ClauseP as clauses
 use Rattle.starlark_ast.specs.contracts.ast.ExprP as exprs
 use Rattle.starlark_ast.specs.contracts.ast.StmtP as stmts
 
@@ -35,9 +34,6 @@ module _ (P L I A D T : RattleType) where
 
   pub target_lent : (k : ℕ) {V : Type 0} (made : V → ValuesAt (targets.enum P L I A D T).parts k → (targets.enum P L I A D T).D) (R : (targets.enum P L I A D T).D → (targets.enum P L I A D T).D → Type 0) {s : (targets.enum P L I A D T).D} (y : V) (w : ValuesAt (targets.enum P L I A D T).parts k) → s ≡ at (targets.enum P L I A D T) k w → R (at (targets.enum P L I A D T) k w) (made y w) → R s (put_in made (values_o (targets.enum P L I A D T) k s) s y)
   target_lent k made R {s} y w is h = lent_into made R (values_o (targets.enum P L I A D T) k) s y w (ap (values_o (targets.enum P L I A D T) k) is ∙ values_o_at (targets.enum P L I A D T) k w) (seen R is h)
-
-  pub clause_lent : (k : ℕ) {V : Type 0} (made : V → ValuesAt (clauses.enum P L I A D T).parts k → (clauses.enum P L I A D T).D) (R : (clauses.enum P L I A D T).D → (clauses.enum P L I A D T).D → Type 0) {s : (clauses.enum P L I A D T).D} (y : V) (w : ValuesAt (clauses.enum P L I A D T).parts k) → s ≡ at (clauses.enum P L I A D T) k w → R (at (clauses.enum P L I A D T) k w) (made y w) → R s (put_in made (values_o (clauses.enum P L I A D T) k s) s y)
-  clause_lent k made R {s} y w is h = lent_into made R (values_o (clauses.enum P L I A D T) k) s y w (ap (values_o (clauses.enum P L I A D T) k) is ∙ values_o_at (clauses.enum P L I A D T) k w) (seen R is h)
 
   pub stmt_lent : (k : ℕ) {V : Type 0} (made : V → ValuesAt (stmts.enum P L I A D T).parts k → (stmts.enum P L I A D T).D) (R : (stmts.enum P L I A D T).D → (stmts.enum P L I A D T).D → Type 0) {s : (stmts.enum P L I A D T).D} (y : V) (w : ValuesAt (stmts.enum P L I A D T).parts k) → s ≡ at (stmts.enum P L I A D T) k w → R (at (stmts.enum P L I A D T) k w) (made y w) → R s (put_in made (values_o (stmts.enum P L I A D T) k s) s y)
   stmt_lent k made R {s} y w is h = lent_into made R (values_o (stmts.enum P L I A D T) k) s y w (ap (values_o (stmts.enum P L I A D T) k) is ∙ values_o_at (stmts.enum P L I A D T) k w) (seen R is h)

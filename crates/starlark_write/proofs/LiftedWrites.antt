@@ -1,7 +1,7 @@
 -- A closure that calls another one at what it is lent, and goes on.
 use Rattle.std.proofs.Common.{◌≡◌, refl, sym, ap, ◌∙◌, subst, List, [], ◌∷◌, ℕ, inl, inr, Result, Ok, Err}
 use Rattle.std.specs.Borrow.{MutBor}
-use Rattle.std.specs.Fn.{Called, CalledAtMut, Mut}
+use Rattle.std.specs.Fn.{CalledAtMut, Mut}
 use denote.Param.Always.{always_mut, mut_next}
 use Rattle.starlark_write.specs.Writing.{WritesAll, WritesEach, WritesUntil, WritesWhile}
 

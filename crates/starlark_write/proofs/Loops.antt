@@ -1,9 +1,9 @@
 -- Lists whose items are written one behind the other.
 use Rattle.std.proofs.Math.ListN.{set}
 use Rattle.std.proofs.Math.Seq.{take-length}
-use Rattle.std.proofs.lemmas.Grind.{common_steps, flat_map-append}
-use Rattle.std.proofs.lemmas.List.{drop-drop, flat_map_more, get_or-drop, take_more, take_more_set, take-append-le, set_split, drop-set-lt}
-use Rattle.std.proofs.Common.{ℕ, suc, ◌+◌, ◌<◌, ◌≤◌, ◌≡◌, refl, sym, ap, ◌∙◌, subst, List, [], ◌∷◌, ◌++◌, flat_map, map, take, drop, take-append-drop, length, get_or, length-set, append-nil, Result, Ok, Err, arith, add-one}
+use Rattle.std.proofs.lemmas.Grind.{flat_map-append}
+use Rattle.std.proofs.lemmas.List.{drop-drop, flat_map_more, get_or-drop, take_more, take_more_set, take-append-le, drop-set-lt}
+use Rattle.std.proofs.Common.{ℕ, suc, ◌+◌, ◌<◌, ◌≡◌, refl, sym, ap, ◌∙◌, subst, List, [], ◌∷◌, ◌++◌, flat_map, map, take, drop, take-append-drop, length, get_or, length-set, append-nil, Result, Ok, Err, arith}
 use Rattle.std.specs.Borrow.{MutBor}
 use Rattle.std.specs.Fn.{Mut}
 use Rattle.starlark_write.specs.Beside as beside

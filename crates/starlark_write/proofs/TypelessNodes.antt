@@ -25,7 +25,6 @@ use Rattle.starlark_ast.specs.declared.ast.ParameterP.TheVariants as parameter
 use Rattle.starlark_ast.specs.declared.ast.AssignTargetP.TheVariants as target
 use Rattle.starlark_ast.specs.declared.ast.ClauseP.TheVariants as clause
 use Rattle.starlark_ast.specs.declared.ast.ArgumentP.TheOpen as layer
-use Rattle.starlark_ast.specs.declared.ast.TypeExprP.{TypeExprP}
 use Rattle.starlark_write.specs.TypePlaces.{Y}
 
 abbrev pub maybe_count : Option (Box (Spanned ℕ) Global) → ℕ

@@ -2,9 +2,9 @@
 
 ghost use Rattle.std.specs.Prelude.{◌≡◌, ◌++◌, flat_map};
 ghost use Rattle.starlark_ast.specs.Access.{argument_expr};
-ghost use Rattle.starlark_write.specs.Beside.{AtPlace, Each, KeepsArgument};
+ghost use Rattle.starlark_write.specs.Beside.{AtPlace, KeepsArgument};
 ghost use Rattle.starlark_write.specs.BesideTypes.{KeepsAll, KeepsArguments, KeepsClauseTypes, KeepsClauses, KeepsDefault, KeepsDefaults, KeepsFor, KeepsLambda, KeepsMaybe, KeepsPairs, KeepsTargetTypes, KeepsTargetsTypes, KeepsTypes};
-ghost use Rattle.starlark_write.specs.TypePlaces.{argument_types, clause_types, default_types, expr_types, for_clause_types, fstring_types, lambda_types, maybe_expr_types, own_type, target_types};
+ghost use Rattle.starlark_write.specs.TypePlaces.{argument_types, clause_types, default_types, expr_types, for_clause_types, lambda_types, maybe_expr_types, target_types};
 ghost use Rattle.starlark_write.specs.Writing.{WritesUntil};
 
 use crate::own_types::own_types;

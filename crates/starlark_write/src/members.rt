@@ -1,7 +1,7 @@
 //! Writes to the expressions in arguments, parameters, clauses, lambdas and f-strings.
 
-ghost use Rattle.std.specs.Prelude.{◌≡◌, ⊤, [], ◌∷◌, ◌++◌, flat_map};
-ghost use Rattle.starlark_write.specs.Beside.{AtPlace, Each, KeepsArgs, KeepsArgument, KeepsClause, KeepsForClause, KeepsFString, KeepsLambda, KeepsMaybeType, KeepsParameter, args_places, fstring_places, lambda_places, stands};
+ghost use Rattle.std.specs.Prelude.{◌≡◌, ⊤, [], ◌∷◌, ◌++◌};
+ghost use Rattle.starlark_write.specs.Beside.{AtPlace, KeepsArgs, KeepsArgument, KeepsClause, KeepsForClause, KeepsFString, KeepsLambda, KeepsMaybeType, KeepsParameter, args_places, fstring_places, lambda_places, stands};
 ghost use Rattle.starlark_ast.specs.Places.{argument_place, clause_places, for_clause_places, maybe_place, maybe_type_place, pair_places, parameter_places};
 ghost use Rattle.starlark_write.specs.Writing.{WritesUntil};
 

@@ -1,6 +1,6 @@
 //! Visitors that write to the nodes right below a statement.
 
-ghost use Rattle.std.specs.Prelude.{◌≡◌, List, Result, Ok, map, [], ◌∷◌, ◌++◌, length};
+ghost use Rattle.std.specs.Prelude.{◌≡◌, List, Result, Ok, map, [], ◌∷◌, length};
 ghost use Rattle.starlark_ast.specs.Calls.{CalledOn};
 ghost use Rattle.starlark_ast.specs.Nodes.{Node, expression, nodes_below, statement};
 ghost use Rattle.starlark_ast.specs.Statements.{exprs_below};

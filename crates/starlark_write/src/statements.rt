@@ -1,10 +1,10 @@
 //! Writes to what stands right below a statement.
 
-ghost use Rattle.std.specs.Prelude.{◌≡◌, [], ◌∷◌, ◌++◌, flat_map};
+ghost use Rattle.std.specs.Prelude.{◌≡◌, [], ◌∷◌, ◌++◌};
 ghost use Rattle.starlark_write.specs.Beside.{AtPlace, KeepsTarget, stands};
-ghost use Rattle.starlark_write.specs.BesideStatements.{KeepsAssign, KeepsDef, KeepsDefHead, KeepsFor, KeepsForHead, KeepsHead, KeepsStmt, KeepsTypeHere};
+ghost use Rattle.starlark_write.specs.BesideStatements.{KeepsAssign, KeepsDef, KeepsFor, KeepsStmt, KeepsTypeHere};
 ghost use Rattle.starlark_ast.specs.Places.{target_places};
-ghost use Rattle.starlark_ast.specs.Statements.{assign_places, def_places, exprs_below, for_places, maybe_here, maybe_type_here, stmts_below};
+ghost use Rattle.starlark_ast.specs.Statements.{assign_places, def_places, exprs_below, for_places, maybe_here, maybe_type_here};
 ghost use Rattle.starlark_write.specs.Writing.{WritesUntil};
 
 use crate::visit_mut::{VisitExprMut, boxed, maybe_type, one, parts};

@@ -1,6 +1,6 @@
 //! Writes to targets.
 
-ghost use Rattle.std.specs.Prelude.{◌≡◌, Ok, List, [], ◌∷◌, flat_map};
+ghost use Rattle.std.specs.Prelude.{◌≡◌, Ok, [], flat_map};
 ghost use Rattle.std.specs.Fn.{CalledAtMut};
 ghost use Rattle.starlark_write.specs.Beside.{KeepsAllPlaces, KeepsPlaces, KeepsTarget, KeepsTargets};
 ghost use Rattle.starlark_ast.specs.Places.{assigned_places, target_places};

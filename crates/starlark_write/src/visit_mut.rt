@@ -1,6 +1,6 @@
 //! Visitors that write, and writes to the parts of a node.
 
-ghost use Rattle.std.specs.Prelude.{◌≡◌, Ok, List, [], ◌∷◌, ◌++◌, flat_map, length};
+ghost use Rattle.std.specs.Prelude.{◌≡◌, Ok, List, [], ◌∷◌, flat_map, length};
 ghost use Rattle.std.specs.Fn.{CalledAtMut};
 ghost use Rattle.starlark_write.specs.Beside.{Each, KeepsMaybeType, stands};
 ghost use Rattle.starlark_write.specs.Beside.{Assigned};

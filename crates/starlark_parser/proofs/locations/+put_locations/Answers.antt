@@ -1,7 +1,5 @@
-use Rattle.std.proofs.Common.{arith, ◌∙◌, [], ◌∷◌, ◌++◌, ap, append_assoc, map, sym}
-use Rattle.std.proofs.lemmas.List.{map-append}
-use Rattle.std.proofs.lemmas.List.Elements.{All-head}
-use Rattle.starlark_place.specs.Place.{Holds, file_place}
+use Rattle.std.proofs.Common.{arith, ◌∙◌, [], ◌∷◌, ◌++◌, ap, map}
+use Rattle.starlark_place.specs.Place.{file_place}
 use Rattle.starlark_ast.specs.View.{stmt_at}
 use Rattle.starlark_parser.specs.Locations.{locations}
 use Rattle.starlark_parser.proofs.Located.{all_of, behind, both, def_body, either_first, either_second, for_body, if_body, one_of, own_place}

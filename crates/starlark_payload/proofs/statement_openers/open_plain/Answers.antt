@@ -1,5 +1,5 @@
 use mathlib.Core.Path.{fun_ext}
-use Rattle.std.proofs.Common.{ap, refl, sym, ◌∙◌}
+use Rattle.std.proofs.Common.{ap, ◌∙◌}
 use Rattle.starlark_ast.specs.View.{stmt_view}
 use Rattle.starlark_ast.specs.StatementViews.{stmt_view-Break, stmt_view-Continue, stmt_view-Pass}
 use Rattle.starlark_payload.proofs.statement_openers.open_plain.Goals as goal

@@ -1,4 +1,4 @@
-use Rattle.std.proofs.Common.{ap, refl, sym, ◌∙◌}
+use Rattle.std.proofs.Common.{ap, ◌∙◌}
 use Rattle.starlark_ast.specs.View.{stmt_view}
 use Rattle.starlark_payload.specs.Payloads.{stmt_payloads}
 use Rattle.starlark_payload.specs.StatementWeights.{stmt_weight}

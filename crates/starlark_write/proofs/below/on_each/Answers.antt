@@ -1,4 +1,4 @@
-use Rattle.std.proofs.Common.{rules, of_calls, arith, ◌≡◌, ◌<◌, refl, sym, ◌∙◌, [], ◌∷◌, length}
+use Rattle.std.proofs.Common.{rules, of_calls, arith, ◌≡◌, ◌<◌, refl, sym, ◌∙◌, length}
 use Rattle.std.proofs.lemmas.List.{take_more_set}
 use Rattle.starlark_write.proofs.EachWritten.{each_at, each_call, each_none, each_then}
 use Rattle.starlark_write.proofs.Loops.{front_more, lengths_more, old_more, whole}

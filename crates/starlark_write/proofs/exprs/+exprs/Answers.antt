@@ -13,7 +13,7 @@ use Rattle.starlark_write.specs.TypePlaces.{argument_types, clause_types, defaul
 use Rattle.starlark_write.specs.Writing.{WritesUntil}
 use Rattle.starlark_write.proofs.KeptParts.{argument_kept, expr_of_with}
 use Rattle.starlark_write.proofs.KeptTypes.{KeepsPair, all_back, argument_nodes_of, argument_types_of, arguments_back, clauses_back, defaults_back, fewer, maybe_same, pairs_back, same_default_nodes, same_defaults, same_own, targets_back}
-use Rattle.starlark_write.proofs.Lent.{both, clause_lent, expr_lent, seen, seen_left, target_lent}
+use Rattle.starlark_write.proofs.Lent.{both, expr_lent, seen, seen_left, target_lent}
 use Rattle.starlark_write.proofs.Loops as loops
 use Rattle.starlark_write.proofs.Loops.{both_more, end_in, front_more, lengths_more, stop_in, take_back, whole, writes_more, writes_stop_here}
 use Rattle.starlark_write.proofs.TypeParts.{call_args_types-parts, clause_types-For, clause_types-If, default_types-Args, default_types-KwArgs, default_types-NoArgs, default_types-Normal, default_types-Slash, expr_types-BitNot, expr_types-Call, expr_types-Dict, expr_types-DictComprehension, expr_types-Dot, expr_types-FString, expr_types-Identifier, expr_types-If, expr_types-Index, expr_types-Index2, expr_types-Lambda, expr_types-List, expr_types-ListComprehension, expr_types-Literal, expr_types-Minus, expr_types-Not, expr_types-Op, expr_types-Plus, expr_types-Slice, expr_types-Tuple, for_clause_types-parts, fstring_types-parts, lambda_types-parts, target_types-Dot, target_types-Identifier, target_types-Index, target_types-Tuple}

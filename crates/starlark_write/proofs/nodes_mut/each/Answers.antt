@@ -1,4 +1,4 @@
-use Rattle.std.proofs.Common.{rules, arith, ◌≡◌, ◌<◌, refl, sym, ap, ◌∙◌, length, map, [], ◌∷◌}
+use Rattle.std.proofs.Common.{rules, arith, ◌≡◌, ◌<◌, refl, ap, ◌∙◌, length, map, [], ◌∷◌}
 use Rattle.starlark_ast.specs.Nodes.{statement}
 use Rattle.starlark_write.proofs.Loops.{front_more, lengths_more, whole}
 use Rattle.starlark_write.proofs.NodesWritten.{nodes_at, nodes_more, nodes_none, nodes_one, nodes_stop_here}

@@ -1,4 +1,4 @@
-use Rattle.std.proofs.Common.{rules, ◌∙◌}
+use Rattle.std.proofs.Common.{rules}
 use denote.Param.Always.{mut_by}
 use Rattle.starlark_ast.specs.Nodes.{expression}
 use Rattle.starlark_write.proofs.NodesWritten.{carried, step_at}

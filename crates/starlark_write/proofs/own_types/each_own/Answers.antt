@@ -1,4 +1,4 @@
-use Rattle.std.proofs.Common.{rules, of_calls, arith, ◌≡◌, ◌<◌, refl, sym, ap, ◌∙◌, flat_map, length, get_or}
+use Rattle.std.proofs.Common.{rules, of_calls, arith, ◌≡◌, ◌<◌, refl, ap, ◌∙◌, flat_map, length, get_or}
 use Rattle.starlark_write.specs.Beside.{AtPlace, Each}
 use Rattle.starlark_write.specs.BesideTypes.{KeepsOwn}
 use Rattle.starlark_write.specs.TypePlaces.{own_type}

@@ -1,12 +1,9 @@
-use Rattle.std.proofs.Common.{◌≡◌, refl, sym, ap, ◌∙◌, subst, []}
-use Rattle.starlark_ast.specs.Places.{maybe_place}
+use Rattle.std.proofs.Common.{sym, ap, ◌∙◌, subst}
 use Rattle.starlark_ast.specs.declared.ast.ParameterP.TheVariants as parameter
 use Rattle.starlark_write.specs.Beside.{stands}
 use Rattle.starlark_write.specs.BesideTypes as beside
 use Rattle.starlark_write.specs.BesideTypes.{KeepsOwn}
-use Rattle.starlark_write.specs.TypePlaces.{own_layer, own_type}
 use Rattle.starlark_write.proofs.Lent.{seen}
-use Rattle.starlark_write.proofs.Writes.{writes_at, writes_none}
 use Rattle.starlark_write.proofs.own_types.own.Goals as goal
 
 pub returns-in-Slash-clause-kept : goal.returns-in-Slash-clause-kept

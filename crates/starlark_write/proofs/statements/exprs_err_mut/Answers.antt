@@ -1,4 +1,4 @@
-use Rattle.std.proofs.Common.{◌≡◌, refl, sym, ap, ◌∙◌, subst, [], ◌∷◌, ◌++◌}
+use Rattle.std.proofs.Common.{refl, sym, ap, ◌∙◌, subst, [], ◌∷◌, ◌++◌}
 use denote.Param.{param}
 use Rattle.starlark_write.specs.Beside.{AtPlace, KeepsTarget, stands}
 use Rattle.starlark_write.specs.BesideStatements as beside

@@ -1,4 +1,4 @@
-use Rattle.std.proofs.Common.{◌≡◌, sym, ap, ◌∙◌, subst}
+use Rattle.std.proofs.Common.{sym, subst}
 use Rattle.starlark_write.specs.BesideTypes as kept
 use Rattle.starlark_write.specs.BesideTypes.{KeepsReturned, KeepsTypes}
 use Rattle.starlark_write.proofs.Lent.{seen, seen_left}

@@ -1,4 +1,4 @@
-use Rattle.std.proofs.Common.{rules, of_calls, ◌∙◌}
+use Rattle.std.proofs.Common.{rules, ◌∙◌}
 use denote.Param.Always.{always_mut, mut_by}
 use Rattle.starlark_write.proofs.LiftedWrites.{lifted, all_callable}
 use Rattle.starlark_write.proofs.visit_mut.lend_each_mut.Goals as goal

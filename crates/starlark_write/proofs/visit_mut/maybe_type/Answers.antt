@@ -1,4 +1,4 @@
-use Rattle.std.proofs.Common.{◌≡◌, refl, sym, ap, ◌∙◌, subst, [], ◌∷◌}
+use Rattle.std.proofs.Common.{refl, sym, ap, ◌∙◌, subst, [], ◌∷◌}
 use Rattle.starlark_write.specs.Beside as beside
 use Rattle.starlark_write.specs.Beside.{KeepsMaybeType}
 use Rattle.starlark_ast.specs.Places.{maybe_type_place, type_place}

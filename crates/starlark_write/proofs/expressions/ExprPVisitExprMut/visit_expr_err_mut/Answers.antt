@@ -1,4 +1,4 @@
-use Rattle.std.proofs.Common.{◌≡◌, refl, sym, ap, ◌∙◌, subst, [], ◌∷◌, ◌++◌, flat_map, length}
+use Rattle.std.proofs.Common.{refl, sym, ap, ◌∙◌, subst, [], ◌∷◌, ◌++◌, flat_map, length}
 use denote.Param.{param}
 use Rattle.starlark_write.specs.Beside as beside
 use Rattle.starlark_write.specs.Beside.{AtPlace, Each, KeepsArgs, KeepsClause, KeepsExpr, KeepsForClause, KeepsFString, KeepsLambda, args_places, fstring_places, lambda_places, stands}

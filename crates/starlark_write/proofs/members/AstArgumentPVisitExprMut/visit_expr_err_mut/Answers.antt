@@ -1,4 +1,4 @@
-use Rattle.std.proofs.Common.{◌≡◌, refl, sym, ap, ◌∙◌, [], ◌∷◌}
+use Rattle.std.proofs.Common.{refl, sym, ap, [], ◌∷◌}
 use Rattle.starlark_write.proofs.KeptParts.{argument_kept, expr_of_with}
 use Rattle.starlark_write.proofs.Writes.{writes_at}
 use Rattle.starlark_write.proofs.members.AstArgumentPVisitExprMut.visit_expr_err_mut.Goals as goal

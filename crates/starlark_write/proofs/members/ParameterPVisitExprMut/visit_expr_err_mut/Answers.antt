@@ -1,4 +1,4 @@
-use Rattle.std.proofs.Common.{◌≡◌, refl, sym, ap, ◌∙◌, subst}
+use Rattle.std.proofs.Common.{sym, ap, ◌∙◌, subst}
 use Rattle.starlark_write.specs.Beside as beside
 use Rattle.starlark_write.specs.Beside.{KeepsMaybeType, KeepsParameter, stands}
 use Rattle.starlark_ast.specs.declared.ast.ParameterP.TheVariants as parameter

@@ -1,4 +1,4 @@
-use Rattle.std.proofs.Common.{◌≡◌, refl, sym, ap, ◌∙◌, subst, [], ◌∷◌, length, map}
+use Rattle.std.proofs.Common.{refl, sym, ap, ◌∙◌, subst, [], ◌∷◌, length, map}
 use denote.Param.{param}
 use Rattle.starlark_ast.specs.Nodes.{statement}
 use Rattle.starlark_ast.specs.Statements.{stmts_below, stmts_layer}

@@ -1,6 +1,5 @@
 use Rattle.std.proofs.Common.{refl, [], ◌∷◌, ◌++◌}
 use Rattle.starlark_ast.specs.Statements.{maybe_type_here}
-use Rattle.starlark_write.specs.BesideStatements.{KeepsTypeHere}
 use Rattle.starlark_write.proofs.KeptStatements.{type_here_same}
 use Rattle.starlark_write.proofs.Writes.{writes_stop, writes_then}
 use Rattle.starlark_write.proofs.statements.AssignPVisitExprMut.visit_expr_err_mut.Goals as goal
