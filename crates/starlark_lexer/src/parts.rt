@@ -44,7 +44,7 @@ pub(crate) struct Parts<'a> {
     pub margin: usize,
     /// Nothing more comes.
     pub over: bool,
-    /// How many bytes were looked at.
+    /// How many looks at bytes were counted.
     pub reads: u64,
 }
 

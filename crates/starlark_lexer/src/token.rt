@@ -35,7 +35,7 @@ pub enum FStringConv {
 /// A lexeme.
 #[derive(Debug, Drop, PartialEq, Eq)]
 pub enum Token {
-    /// A line end outside of brackets and fields, or the text's end.
+    /// A line end that ends a line of the program (docs/LANGUAGE.md, Layout), or the text's end.
     Newline,
     /// The blanks of a line that is deeper than those before it.
     Indent,

@@ -3,5 +3,4 @@ pub mod First
 pub mod Tokens
 pub mod Expressions
 pub mod Statements
-pub mod Places
 pub mod Outlines

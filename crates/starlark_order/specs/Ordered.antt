@@ -1,5 +1,6 @@
 -- The order of tokens, and of the items of an outline.
-use Rattle.std.specs.Prelude.{◌≡◌, ◌<◌, ◌⊎◌, ℕ, slice_index, Bool, true, false, List, [], ◌∷◌}
+use Rattle.std.specs.Prelude.{◌≡◌, ◌<◌, ℕ, slice_index, Bool, true, false, List, [], ◌∷◌}
+use Rattle.starlark_place.specs.Resolved.{IsBefore}
 use Rattle.starlark_place.specs.declared.resolved.ResolvedPos.{ResolvedPos}
 use Rattle.starlark_lexer.specs.Items.{Lexeme, newline, indent, dedent, fstring_text, fstring_expr_start, fstring_expr_end, fstring_bang, fstring_end, Item}
 use Rattle.starlark_parts.specs.declared.word.OutlineItem.{OutlineItem}
@@ -32,10 +33,6 @@ is_inner _ = false
 abbrev pub BeginPlainly : List ℕ → List Item → Type 0
 BeginPlainly text [] = Unit {0}
 BeginPlainly text (x ∷ xs) = (is_inner x.lexeme ≡ false → slice_index text x.begin < 128) × BeginPlainly text xs
-
--- on an earlier line, or further left on the same
-abbrev pub IsBefore : ResolvedPos → ResolvedPos → Type 0
-IsBefore a b = (a.line < b.line) ⊎ ((a.line ≡ b.line) × (a.column < b.column))
 
 -- it begins before each of these
 abbrev pub BeforeAll : ResolvedPos → List OutlineItem → Type 0

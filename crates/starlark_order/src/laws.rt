@@ -9,6 +9,7 @@ ghost use Rattle.starlark_parts.specs.declared.word.OutlineItem.{OutlineItem};
 ghost use Rattle.starlark_order.specs.Ordered.{AreOrdered, BeginPlainly, HaveBytes};
 
 use starlark_lexer::laws::in_order;
+use starlark_place::laws::resolving_keeps_order;
 
 /// Each item but a line end, an `Indent` and a `Dedent` has bytes. The first of them is an ASCII byte,
 /// texts, braces, `!` and ends of f-strings aside.
@@ -22,6 +23,7 @@ pub fn firm_tokens()
 pub fn ordered_outline()
     ensures { (dialect : Dialect) (text : List ℕ) (items : List OutlineItem) → IsOutline dialect text items → AreOrdered items }
 {
+    resolving_keeps_order();
     in_order();
     firm_tokens();
 }

@@ -3,4 +3,5 @@ pub mod Counts
 pub mod Blocks
 pub mod Feeds
 pub mod Lines
+pub mod Order
 pub mod Examples

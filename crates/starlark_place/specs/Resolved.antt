@@ -15,3 +15,7 @@ resolved_span text e = record { begin = resolved text e.begin; end = resolved te
 -- one place is at or before another
 abbrev pub IsAtMost : ResolvedPos → ResolvedPos → Type 0
 IsAtMost a b = (a.line < b.line) ⊎ ((a.line ≡ b.line) × (a.column ≤ b.column))
+
+-- on an earlier line, or further left on the same
+abbrev pub IsBefore : ResolvedPos → ResolvedPos → Type 0
+IsBefore a b = (a.line < b.line) ⊎ ((a.line ≡ b.line) × (a.column < b.column))

@@ -1,10 +1,10 @@
 //! Laws on places.
 
-ghost use Rattle.std.specs.Prelude.{◌≡◌, ◌≤◌, ◌+◌, ◌↔◌, ℕ, List, true, map};
+ghost use Rattle.std.specs.Prelude.{◌≡◌, ◌<◌, ◌≤◌, ◌+◌, ◌↔◌, ℕ, List, false, length, map, slice_index, true};
 ghost use Rattle.std.specs.List.{concat, range_with_len};
 ghost use Rattle.std.specs.declared.cmp.Ordering.TheVariants.{Equal};
-ghost use Rattle.starlark_place.specs.Place.{Extent, FilePlace, line_at, line_feeds, line_begin, line_text};
-ghost use Rattle.starlark_place.specs.Resolved.{resolved, IsAtMost};
+ghost use Rattle.starlark_place.specs.Place.{Extent, FilePlace, is_continuation, line_at, line_feeds, line_begin, line_text};
+ghost use Rattle.starlark_place.specs.Resolved.{resolved, IsAtMost, IsBefore};
 ghost use Rattle.starlark_place.specs.Laws.{Intersects, compares, equals, hashes};
 
 use crate::codemap::CodeMapId;
@@ -14,9 +14,10 @@ pub fn intersects_both_ways()
     ensures { (s t : Extent) → Intersects s t ↔ Intersects t s }
 {}
 
-/// Of two places of a text the earlier has no greater line and column.
+/// Of two places of a text the earlier has no greater line and column, and a smaller one where a character begins there.
 pub fn resolving_keeps_order()
-    ensures { (text : List ℕ) (i j : ℕ) → i ≤ j → IsAtMost (resolved text i) (resolved text j) }
+    ensures weak { (text : List ℕ) (i j : ℕ) → i ≤ j → IsAtMost (resolved text i) (resolved text j) }
+    ensures strict { (text : List ℕ) (i j : ℕ) → i < j → j ≤ length text → is_continuation (slice_index text i) ≡ false → IsBefore (resolved text i) (resolved text j) }
 {}
 
 /// The lines of a text are one more than its line feeds, and join to it.
