@@ -1,6 +1,6 @@
 //! A whole text.
 
-ghost use Rattle.std.specs.Prelude.{◌≡◌, ◌≢◌, ◌≤◌, ◌+◌, ◌*◌, ℕ, IfErr, IfOk, List, false, None, Some, Err, [], suc, length};
+ghost use Rattle.std.specs.Prelude.{◌≡◌, ◌≢◌, ◌≤◌, ◌+◌, ◌*◌, ℕ, IfErr, IfOk, IsErr, List, false, None, Some, Err, [], suc, length};
 ghost use Rattle.starlark_lexer.specs.Items.{Lexed};
 ghost use Rattle.starlark_lexer.specs.Lex.{Lex, start};
 ghost use Rattle.starlark_read.specs.declared.refused.Refused.{Refused};
@@ -22,9 +22,9 @@ use starlark_lexer::dialect::Dialect;
 use starlark_lexer::lexer::Lexer;
 use std::alloc::Global;
 
-/// The tree of all that a lexer has left, as `B` makes it, or why there is none. It tells what it took to read, and where
-/// there is a tree the comments of the text: else some of them. Where memory ran out, what is told of the cost is what
-/// was spent until then.
+/// The tree of all that a lexer has left, as `B` makes it, or why there is none. It tells what it took to read, and the
+/// comments of the text: none where there is no tree. Where memory ran out, what is told of the cost is what was spent
+/// until then. What was told before is gone.
 pub fn read<B: Build>(
     alloc: Global,
     lexer: Lexer<'_>,
@@ -37,6 +37,7 @@ pub fn read<B: Build>(
     ensures reason { (text : List ℕ) (e : Refused) (f : Fault) → Lex start text lexer.entry.left → result ≡ Err e → fault_of e ≡ Some f → IsRefused dialect.now text f }
     ensures comments { IfOk result (λ x. told.new.comments.places.items ≡ comments_in lexer.entry.left.items) }
     ensures joined { IfOk result (λ x. told.new.comments.joined.items ≡ joined_in false lexer.entry.left.items) }
+    ensures bare { IsErr result → (told.new.comments.places.items ≡ []) × (told.new.comments.joined.items ≡ []) }
     ensures asks { IfOk result (λ x. told.new.cost.asks ≡ counted (suc (length lexer.entry.left.items))) }
     ensures reads { IfOk result (λ x. last_end 0 (uncommented lexer.entry.left).items ≤ told.new.cost.reads) }
     ensures bounded { IfOk result (λ x. told.new.cost.reads ≤ 16 * lexer.entry.size + 16) }
@@ -44,6 +45,7 @@ pub fn read<B: Build>(
     ensures most { IfErr result (λ e. fault_of e ≢ None → told.new.cost.asks ≤ counted (suc (length lexer.entry.left.items))) }
     ensures spent { IfErr result (λ e. fault_of e ≢ None → told.new.cost.reads ≤ 16 * lexer.entry.size + 16) }
 {
+    *told = Told::nothing(alloc);
     let mut feed = Feed::new(alloc, lexer);
     let Ok(ahead) = feed.fetch() else {
         told.cost = feed.cost();
@@ -52,8 +54,13 @@ pub fn read<B: Build>(
     let mut tokens = Tokens::new(alloc, feed, ahead);
     let answer = program::<B>(&mut tokens, dialect);
     told.cost = tokens.cost();
-    told.comments = tokens.into_comments();
-    answer
+    match answer {
+        Ok(tree) => {
+            told.comments = tokens.into_comments();
+            Ok(tree)
+        }
+        Err(refused) => Err(refused),
+    }
 }
 
 /// The tree of all tokens, or why there is none.

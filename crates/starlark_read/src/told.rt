@@ -11,7 +11,7 @@ use std::alloc::{AllocError, Global};
 pub struct Comments {
     /// Each from its `#` on, in order.
     pub places: Vec<Span>,
-    /// As many as there are places, where a tree was made.
+    /// As many as there are places.
     pub joined: Vec<bool>,
 }
 

@@ -14,7 +14,8 @@ use Rattle.starlark_rulebook.specs.Kept as kept
 use Rattle.starlark_rulebook.specs.Rules.{Finding, first_finding, first_of, listed}
 use Rattle.starlark_rulebook.specs.View.{maybe_finding}
 use Rattle.starlark_rules.proofs.Prefixes.{members_more}
-use Rattle.starlark_rules.proofs.Within.{behind, clauses_more, argument_as}
+use Rattle.starlark_rules.proofs.Within.{clauses_more}
+use Rattle.starlark_visit.proofs.Members.{behind, argument_as}
 
 -- of two lists
 pub first_of_both : (xs ys : List Finding) → first_finding (xs ++ ys) ≡ first_of (first_finding xs) (first_finding ys)

@@ -30,8 +30,8 @@ use Rattle.starlark_ast.specs.declared.ast.ArgumentP.TheOpen as layer
 use Rattle.starlark_rulebook.specs.Rules.{Finding, LambdaDisabled}
 use Rattle.starlark_rulebook.specs.Late.{unless, parameter_rules, expr_rules, member_rules, bound_rules, clause_rules, one_clause_rules}
 use Rattle.starlark_rules.specs.Levels.{own_rules}
-use Rattle.starlark_rules.proofs.Layers.{ExprLayer, layer_at, expr_by_layer}
-use Rattle.starlark_rules.proofs.Smaller.{singles}
+use Rattle.starlark_visit.proofs.Layers.{ExprLayer, layer_at, expr_by_layer}
+use Rattle.starlark_visit.proofs.Lifted.{singles}
 use Rattle.starlark_rules.proofs.Targets.{members_level, target_level, boxed_level, parameters_level}
 use Rattle.starlark_rules.proofs.Within.{argument_breaks}
 

@@ -10,9 +10,7 @@ pub mod Forms
 pub mod Misfits
 pub mod Places
 pub mod Firsts
-pub mod Layers
 pub mod Levels
 pub mod Outermost
-pub mod Smaller
 pub mod Targets
 pub mod Visiting

@@ -31,8 +31,8 @@ use Rattle.starlark_ast.specs.declared.ast.AssignTargetP.TheVariants as target
 use Rattle.starlark_ast.specs.declared.ast.ParameterP.TheVariants as param
 use Rattle.starlark_rulebook.specs.Late.{expr_rules, member_rules, one_rules, annotation_rules, bound_rules}
 use Rattle.starlark_rulebook.specs.Rules.{Finding}
-use Rattle.starlark_rules.proofs.Within.{more_sizes}
-use Rattle.starlark_rules.specs.Sizes.{size, member_size, sizes}
+use Rattle.starlark_visit.proofs.Members.{more_sizes}
+use Rattle.starlark_visit.specs.Sizes.{size, member_size, sizes}
 
 module _ {P L I A D T : Type 0} where
   -- what some expressions break, in order

@@ -4,7 +4,6 @@ pub mod Misfits
 pub mod Named
 pub mod Levels
 pub mod ParameterKinds
-pub mod Sizes
 pub mod Standings
 pub mod Tallies
 pub mod Unpacked

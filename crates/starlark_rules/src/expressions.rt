@@ -8,7 +8,7 @@ ghost use Rattle.starlark_rulebook.specs.Late as late;
 ghost use Rattle.starlark_rulebook.specs.Rules.{Finding};
 ghost use Rattle.starlark_rulebook.specs.Types as types;
 ghost use Rattle.starlark_rules.specs.Levels.{own_rules};
-ghost use Rattle.starlark_rules.specs.Sizes.{size};
+ghost use Rattle.starlark_visit.specs.Sizes.{size};
 
 use crate::late::{add_unless, parameter_rules};
 use starlark_ast::ast::{AstExprP, AstLiteral, AstPayload, ExprP};

@@ -1,8 +1,11 @@
 pub mod Below
 pub mod Children
+pub mod Layers
 pub mod Lifted
+pub mod Members
 pub mod Naming
 pub mod Nested
+pub mod Smaller
 pub mod Steps
 pub mod Taking
 pub mod Until

@@ -5,6 +5,7 @@ use Rattle.std.proofs.Common.{◌≡◌, refl, sym, ap, ◌∙◌, subst, List, 
 use Rattle.std.specs.Fn.{Called, Mut}
 use denote.Param.Always.{always_mut, mut_next}
 use Rattle.starlark_ast.specs.Calls.{CalledOn, CallsAll, CallsEach, CallsUntil, StopsAtErr}
+use Rattle.starlark_visit.proofs.Until.{until_stop, until_then}
 
 err_not_ok : {E : Type 0} {e : E} {r : Result (Unit {0}) E} → r ≡ Err e → r ≡ Ok tt → ⊥
 err_not_ok h k = cc
@@ -72,3 +73,19 @@ module _ {F G X Y A B E : Type 0} (shown : X → A) (g : Mut F (X × Unit {0}) (
 -- the same, told first what k did
 pub lifted_on : {F G X Y A B E : Type 0} {show : Y → B} {k : Mut G (Y × Unit {0}) (Result (Unit {0}) E)} {ys : List B} {p q : G} {r : Result (Unit {0}) E} → StopsAtErr show k p ys r q → (shown : X → A) (g : Mut F (X × Unit {0}) (Unit {0})) (value : G → F) (name : G → ℕ) (places : B → List A) (each : (p q : G) (y : B) (r : Result (Unit {0}) E) → CalledOn show k p y r q → (r ≡ Ok tt) × CallsAll shown g (value p) (places y) (value q) × (name q ≡ name p)) {xs : List A} (last : F) → (name q ≡ name p → value q ≡ last) → flat_map places ys ≡ xs → CallsEach shown g (value p) xs last
 lifted_on {F} {G} {X} {Y} {A} {B} {E} {show} {k} {ys} {p} {q} {r} h shown g value name places each last is all = lifted shown g show k value name places each ys r last h.told is all
+
+-- the same where g answers as k does
+module _ {F G X Y A B E : Type 0} (shown : X → A) (g : Mut F (X × Unit {0}) (Result (Unit {0}) E)) (show : Y → B) (k : Mut G (Y × Unit {0}) (Result (Unit {0}) E)) (value : G → F) (name : G → ℕ) (places : B → List A) (each : (p q : G) (y : B) (r : Result (Unit {0}) E) → CalledOn show k p y r q → StopsAtErr shown g (value p) (places y) r (value q) × (name q ≡ name p)) where
+  pass : (ys : List B) (p q : G) (r : Result (Unit {0}) E) → CallsUntil show k p ys r q → StopsAtErr shown g (value p) (flat_map places ys) r (value q) × (name q ≡ name p)
+  pass [] p q r h = (record { told = (h.0, ap value h.1) }, ap name (sym h.1))
+  pass (y ∷ ys) p q r h =
+      elim h [
+        | inl c ↦ (let one = each p c.0 y (Ok tt) c.1 in let others = pass ys c.0 q r c.2 in (until_then shown g one.0 refl others.0, others.1 ∙ one.1))
+        | inr c ↦ (let one = each p q y (Err c.0) c.1 in (until_stop shown g (flat_map places ys) one.0 refl c.2, one.1))
+      ]
+
+-- the same where last is what it holds at the end, told first what k did
+pub stops_on : {F G X Y A B E : Type 0} {show : Y → B} {k : Mut G (Y × Unit {0}) (Result (Unit {0}) E)} {ys : List B} {p q : G} {r : Result (Unit {0}) E} → StopsAtErr show k p ys r q → (shown : X → A) (g : Mut F (X × Unit {0}) (Result (Unit {0}) E)) (value : G → F) (name : G → ℕ) (places : B → List A) (each : (p q : G) (y : B) (r : Result (Unit {0}) E) → CalledOn show k p y r q → StopsAtErr shown g (value p) (places y) r (value q) × (name q ≡ name p)) (last : F) → (name q ≡ name p → value q ≡ last) → StopsAtErr shown g (value p) (flat_map places ys) r last
+stops_on {F} {G} {X} {Y} {A} {B} {E} {show} {k} {ys} {p} {q} {r} h shown g value name places each last is =
+    let both = pass shown g show k value name places each ys p q r h.told in
+    subst (λ (s : F). StopsAtErr shown g (value p) (flat_map places ys) r s) (is both.1) both.0

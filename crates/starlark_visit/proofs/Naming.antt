@@ -1,164 +1,188 @@
--- The identifiers read in each variant of an expression, and in what stands in it: equations of Idents.
-use Rattle.std.proofs.Common.{◌≡◌, sym, ap, ◌∙◌, [], ◌∷◌, ◌++◌, flat_map, Option, Some, None}
+-- The identifiers that an expression reads: itself, or those that the expressions right below it read, in order.
+use Rattle.std.proofs.Common.{◌≡◌, refl, sym, ap, ◌∙◌, ℕ, zero, suc, ◌+◌, ◌<◌, List, [], ◌∷◌, ◌++◌, append-nil, map, flat_map, Option, Some, None, arith}
+use Rattle.std.proofs.lemmas.Grind.{flat_map-append}
+use Rattle.std.proofs.lemmas.List.Concat.{flat_map_single}
 use Rattle.std.proofs.lemmas.List.Folds.{flat_map-map}
+use Rattle.std.proofs.lemmas.List.Sums.{sum_by-cons}
+use Rattle.std.specs.List.{sum_by}
 use Rattle.std.specs.declared.alloc.Global.{Global}
 use Rattle.std.specs.declared.boxed.Box.{Box}
-use Rattle.std.specs.declared.string.String.{String}
-use Rattle.std.specs.declared.vec.Vec.{Vec}
 use Rattle.starlark_place.specs.declared.pos.Spanned.{Spanned}
-use Rattle.starlark_visit.specs.Idents.{argument_names, target_names, clause_names, expr_names, parameter_names, call_args_names, fstring_names, for_clause_names, lambda_names, type_names, argument_reads, target_reads, clause_reads, expr_reads, parameter_reads, call_args_reads, fstring_reads, for_clause_reads, lambda_reads, type_reads, maybe_reads, maybe_type_reads}
-use Rattle.starlark_ast.specs.declared.ast.AstLiteral.{AstLiteral}
-use Rattle.starlark_ast.specs.declared.ast.BinOp.{BinOp}
+use Rattle.starlark_ast.specs.Access.{argument_expr_layer}
+use Rattle.starlark_ast.specs.Places.{E, children, expr_layer, maybe_place, maybe_type_place, pair_places, type_place, argument_place, parameter_places, parameter_layer, for_clause_places, clause_places, clause_layer, target_places}
 use Rattle.starlark_ast.specs.declared.ast.IdentP.{IdentP}
 use Rattle.starlark_ast.specs.declared.ast.AssignIdentP.{AssignIdentP}
-use Rattle.starlark_ast.specs.declared.ast.ArgumentP.{fold-roll-ArgumentP}
-use Rattle.starlark_ast.specs.declared.ast.AssignTargetP.{AssignTargetP, fold-roll-AssignTargetP}
-use Rattle.starlark_ast.specs.declared.ast.ClauseP.{ClauseP, fold-roll-ClauseP}
-use Rattle.starlark_ast.specs.declared.ast.ExprP.{ExprP, fold-roll-ExprP}
-use Rattle.starlark_ast.specs.declared.ast.ParameterP.{fold-roll-ParameterP}
+use Rattle.starlark_ast.specs.declared.ast.ArgumentP.{ArgumentP, ArgumentP-F, out-ArgumentP, roll-ArgumentP, roll-out-ArgumentP, fold-roll-ArgumentP}
+use Rattle.starlark_ast.specs.declared.ast.AssignTargetP.{AssignTargetP, AssignTargetP-F, out-AssignTargetP, roll-AssignTargetP, roll-out-AssignTargetP, fold-roll-AssignTargetP}
+use Rattle.starlark_ast.specs.declared.ast.AssignTargetP.TheVariants as target
+use Rattle.starlark_ast.specs.declared.ast.ClauseP.{ClauseP, ClauseP-F, out-ClauseP, roll-ClauseP, roll-out-ClauseP, fold-roll-ClauseP}
+use Rattle.starlark_ast.specs.declared.ast.ExprP.{ExprP, out-ExprP, roll-ExprP, roll-out-ExprP, fold-roll-ExprP}
+use Rattle.starlark_ast.specs.declared.ast.ExprP.TheVariants as expr
+use Rattle.starlark_ast.specs.declared.ast.ParameterP.{ParameterP, ParameterP-F, out-ParameterP, roll-ParameterP, roll-out-ParameterP, fold-roll-ParameterP}
 use Rattle.starlark_ast.specs.declared.ast.CallArgsP.{CallArgsP, fold_out-CallArgsP}
 use Rattle.starlark_ast.specs.declared.ast.FStringP.{FStringP, fold_out-FStringP}
 use Rattle.starlark_ast.specs.declared.ast.ForClauseP.{ForClauseP, fold_out-ForClauseP}
 use Rattle.starlark_ast.specs.declared.ast.LambdaP.{LambdaP, fold_out-LambdaP}
 use Rattle.starlark_ast.specs.declared.ast.TypeExprP.{TypeExprP, fold_out-TypeExprP}
-use Rattle.starlark_ast.specs.declared.ast.ExprP.TheVariants as expr
-use Rattle.starlark_ast.specs.declared.ast.ArgumentP.TheVariants as argument
-use Rattle.starlark_ast.specs.declared.ast.ParameterP.TheVariants as param
-use Rattle.starlark_ast.specs.declared.ast.AssignTargetP.TheVariants as target
-use Rattle.starlark_ast.specs.declared.ast.ClauseP.TheVariants as clause
 use Rattle.starlark_ast.specs.declared.ast.ArgumentP.TheOpen as layer
+use Rattle.starlark_visit.proofs.Children.{target_places-Tuple, target_places-Index, target_places-Dot, target_places-Identifier}
+use Rattle.starlark_visit.proofs.Layers.{ExprLayer}
+use Rattle.starlark_visit.proofs.Nested.{lists, lists-Tuple}
+use Rattle.starlark_visit.specs.Idents.{N, argument_names, target_names, clause_names, expr_names, parameter_names, call_args_names, fstring_names, for_clause_names, lambda_names, type_names, argument_reads, target_reads, clause_reads, expr_reads, parameter_reads, for_clause_reads, maybe_reads, maybe_type_reads}
 
 module _ {P L I A D T : Type 0} where
-  pub expr_reads-Tuple : (xs : Vec (Spanned (ExprP P L I A D T)) Global) → expr_reads (expr.Tuple xs) ≡ flat_map (λ x. expr_reads x.node) xs.items
-  expr_reads-Tuple xs = ap expr_reads (sym (expr.rolls-Tuple xs)) ∙ fold-roll-ExprP P L I A D T _ _ _ _ _ _ _ _ _ _ argument_names target_names clause_names expr_names parameter_names call_args_names fstring_names for_clause_names lambda_names type_names (layer.ExprP::Tuple xs) ∙ flat_map-map _ _ xs.items
+  -- what some expressions read, one behind the other
+  abbrev read_all : List (E P L I A D T) → List (N P L I A D T)
+  read_all xs = flat_map (λ y. expr_reads y.node) xs
 
-  pub expr_reads-Dot : (x : Box (Spanned (ExprP P L I A D T)) Global) (name : Spanned (String Global)) → expr_reads (expr.Dot x name) ≡ expr_reads x.value.node
-  expr_reads-Dot x name = ap expr_reads (sym (expr.rolls-Dot x name)) ∙ fold-roll-ExprP P L I A D T _ _ _ _ _ _ _ _ _ _ argument_names target_names clause_names expr_names parameter_names call_args_names fstring_names for_clause_names lambda_names type_names (layer.ExprP::Dot x name)
+  -- one alone
+  one_reads : (x : E P L I A D T) → read_all (x ∷ []) ≡ expr_reads x.node
+  one_reads x = append-nil (expr_reads x.node)
 
-  pub expr_reads-Call : (x : Box (Spanned (ExprP P L I A D T)) Global) (args : CallArgsP P L I A D T) → expr_reads (expr.Call x args) ≡ expr_reads x.value.node ++ call_args_reads args
-  expr_reads-Call x args = ap expr_reads (sym (expr.rolls-Call x args)) ∙ fold-roll-ExprP P L I A D T _ _ _ _ _ _ _ _ _ _ argument_names target_names clause_names expr_names parameter_names call_args_names fstring_names for_clause_names lambda_names type_names (layer.Call x args)
+  -- two alone
+  two_read : (x y : E P L I A D T) → read_all (x ∷ y ∷ []) ≡ expr_reads x.node ++ expr_reads y.node
+  two_read x y = ap (λ q. expr_reads x.node ++ q) (one_reads y)
 
-  pub expr_reads-Index : (x : Box (Spanned (ExprP P L I A D T) × Spanned (ExprP P L I A D T)) Global) → expr_reads (expr.Index x) ≡ expr_reads x.value.0.node ++ expr_reads x.value.1.node
-  expr_reads-Index x = ap expr_reads (sym (expr.rolls-Index x)) ∙ fold-roll-ExprP P L I A D T _ _ _ _ _ _ _ _ _ _ argument_names target_names clause_names expr_names parameter_names call_args_names fstring_names for_clause_names lambda_names type_names (layer.ExprP::Index x)
+  -- some, and others behind them
+  both_read : (xs ys : List (E P L I A D T)) (a b : List (N P L I A D T)) → read_all xs ≡ a → read_all ys ≡ b → read_all (xs ++ ys) ≡ a ++ b
+  both_read xs ys a b h k = flat_map-append (λ y. expr_reads y.node) xs ys ∙ ap (λ q. q ++ read_all ys) h ∙ ap (λ q. a ++ q) k
 
-  pub expr_reads-Index2 : (x : Box (Spanned (ExprP P L I A D T) × Spanned (ExprP P L I A D T) × Spanned (ExprP P L I A D T)) Global) → expr_reads (expr.Index2 x) ≡ expr_reads x.value.0.node ++ (expr_reads x.value.1.node ++ expr_reads x.value.2.node)
-  expr_reads-Index2 x = ap expr_reads (sym (expr.rolls-Index2 x)) ∙ fold-roll-ExprP P L I A D T _ _ _ _ _ _ _ _ _ _ argument_names target_names clause_names expr_names parameter_names call_args_names fstring_names for_clause_names lambda_names type_names (layer.Index2 x)
+  -- those of each of a list
+  each_reads : {X : Type 0} (f : X → List (E P L I A D T)) (g : X → List (N P L I A D T)) (xs : List X) → ((x : X) → read_all (f x) ≡ g x) → read_all (flat_map f xs) ≡ flat_map g xs
+  each_reads f g [] h = refl
+  each_reads f g (x ∷ xs) h = both_read (f x) (flat_map f xs) _ _ (h x) (each_reads f g xs h)
 
-  pub expr_reads-Slice : (x : Box (Spanned (ExprP P L I A D T)) Global) (a : Option (Box (Spanned (ExprP P L I A D T)) Global)) (b : Option (Box (Spanned (ExprP P L I A D T)) Global)) (c : Option (Box (Spanned (ExprP P L I A D T)) Global)) → expr_reads (expr.Slice x a b c) ≡ expr_reads x.value.node ++ (maybe_reads a ++ (maybe_reads b ++ maybe_reads c))
-  expr_reads-Slice x None None None = ap expr_reads (sym (expr.rolls-Slice x None None None)) ∙ fold-roll-ExprP P L I A D T _ _ _ _ _ _ _ _ _ _ argument_names target_names clause_names expr_names parameter_names call_args_names fstring_names for_clause_names lambda_names type_names (layer.Slice x None None None)
-  expr_reads-Slice x None None (Some c) = ap expr_reads (sym (expr.rolls-Slice x None None (Some c))) ∙ fold-roll-ExprP P L I A D T _ _ _ _ _ _ _ _ _ _ argument_names target_names clause_names expr_names parameter_names call_args_names fstring_names for_clause_names lambda_names type_names (layer.Slice x None None (Some c))
-  expr_reads-Slice x None (Some b) None = ap expr_reads (sym (expr.rolls-Slice x None (Some b) None)) ∙ fold-roll-ExprP P L I A D T _ _ _ _ _ _ _ _ _ _ argument_names target_names clause_names expr_names parameter_names call_args_names fstring_names for_clause_names lambda_names type_names (layer.Slice x None (Some b) None)
-  expr_reads-Slice x None (Some b) (Some c) = ap expr_reads (sym (expr.rolls-Slice x None (Some b) (Some c))) ∙ fold-roll-ExprP P L I A D T _ _ _ _ _ _ _ _ _ _ argument_names target_names clause_names expr_names parameter_names call_args_names fstring_names for_clause_names lambda_names type_names (layer.Slice x None (Some b) (Some c))
-  expr_reads-Slice x (Some a) None None = ap expr_reads (sym (expr.rolls-Slice x (Some a) None None)) ∙ fold-roll-ExprP P L I A D T _ _ _ _ _ _ _ _ _ _ argument_names target_names clause_names expr_names parameter_names call_args_names fstring_names for_clause_names lambda_names type_names (layer.Slice x (Some a) None None)
-  expr_reads-Slice x (Some a) None (Some c) = ap expr_reads (sym (expr.rolls-Slice x (Some a) None (Some c))) ∙ fold-roll-ExprP P L I A D T _ _ _ _ _ _ _ _ _ _ argument_names target_names clause_names expr_names parameter_names call_args_names fstring_names for_clause_names lambda_names type_names (layer.Slice x (Some a) None (Some c))
-  expr_reads-Slice x (Some a) (Some b) None = ap expr_reads (sym (expr.rolls-Slice x (Some a) (Some b) None)) ∙ fold-roll-ExprP P L I A D T _ _ _ _ _ _ _ _ _ _ argument_names target_names clause_names expr_names parameter_names call_args_names fstring_names for_clause_names lambda_names type_names (layer.Slice x (Some a) (Some b) None)
-  expr_reads-Slice x (Some a) (Some b) (Some c) = ap expr_reads (sym (expr.rolls-Slice x (Some a) (Some b) (Some c))) ∙ fold-roll-ExprP P L I A D T _ _ _ _ _ _ _ _ _ _ argument_names target_names clause_names expr_names parameter_names call_args_names fstring_names for_clause_names lambda_names type_names (layer.Slice x (Some a) (Some b) (Some c))
+  -- a default or a bound of a slice
+  maybe_read : (x : Option (Box (E P L I A D T) Global)) → read_all (maybe_place x) ≡ maybe_reads x
+  maybe_read None = refl
+  maybe_read (Some x) = one_reads x.value
 
-  pub expr_reads-Identifier : (x : Spanned (IdentP P L I A D T)) → expr_reads (expr.Identifier x) ≡ x ∷ []
-  expr_reads-Identifier x = ap expr_reads (sym (expr.rolls-Identifier x)) ∙ fold-roll-ExprP P L I A D T _ _ _ _ _ _ _ _ _ _ argument_names target_names clause_names expr_names parameter_names call_args_names fstring_names for_clause_names lambda_names type_names (layer.ExprP::Identifier x)
+  -- a type, where there is one
+  type_read : (x : Option (Box (Spanned (TypeExprP P L I A D T)) Global)) → read_all (maybe_type_place x) ≡ maybe_type_reads x
+  type_read None = refl
+  type_read (Some x) = one_reads (type_place x.value) ∙ sym (fold_out-TypeExprP P L I A D T _ _ _ _ _ _ _ _ _ _ argument_names target_names clause_names expr_names parameter_names call_args_names fstring_names for_clause_names lambda_names type_names x.value.node)
 
-  pub expr_reads-Lambda : (x : LambdaP P L I A D T) → expr_reads (expr.Lambda x) ≡ lambda_reads x
-  expr_reads-Lambda x = ap expr_reads (sym (expr.rolls-Lambda x)) ∙ fold-roll-ExprP P L I A D T _ _ _ _ _ _ _ _ _ _ argument_names target_names clause_names expr_names parameter_names call_args_names fstring_names for_clause_names lambda_names type_names (layer.Lambda x)
+  -- ---- targets
 
-  pub expr_reads-Not : (x : Box (Spanned (ExprP P L I A D T)) Global) → expr_reads (expr.Not x) ≡ expr_reads x.value.node
-  expr_reads-Not x = ap expr_reads (sym (expr.rolls-Not x)) ∙ fold-roll-ExprP P L I A D T _ _ _ _ _ _ _ _ _ _ argument_names target_names clause_names expr_names parameter_names call_args_names fstring_names for_clause_names lambda_names type_names (layer.Not x)
+  targets_read : (n : ℕ) → ((x : Spanned (AssignTargetP P L I A D T)) → lists x.node < n → read_all (target_places x.node) ≡ target_reads x.node) → (xs : List (Spanned (AssignTargetP P L I A D T))) → sum_by (λ x. lists x.node) xs < n → read_all (flat_map (λ x. target_places x.node) xs) ≡ flat_map (λ x. target_reads x.node) xs
+  targets_read n smaller [] few = refl
+  targets_read n smaller (x ∷ xs) few =
+      let all = sum_by-cons (λ x. lists x.node) x xs in
+      both_read (target_places x.node) (flat_map (λ x. target_places x.node) xs) _ _ (smaller x (omega (arith, few, all))) (targets_read n smaller xs (omega (arith, few, all)))
 
-  pub expr_reads-Minus : (x : Box (Spanned (ExprP P L I A D T)) Global) → expr_reads (expr.Minus x) ≡ expr_reads x.value.node
-  expr_reads-Minus x = ap expr_reads (sym (expr.rolls-Minus x)) ∙ fold-roll-ExprP P L I A D T _ _ _ _ _ _ _ _ _ _ argument_names target_names clause_names expr_names parameter_names call_args_names fstring_names for_clause_names lambda_names type_names (layer.Minus x)
+  -- one layer of a target, where those of smaller ones are known
+  target_layer_reads : (n : ℕ) → ((x : Spanned (AssignTargetP P L I A D T)) → lists x.node < n → read_all (target_places x.node) ≡ target_reads x.node) → (l : AssignTargetP-F P L I A D T (ArgumentP P L I A D T) (AssignTargetP P L I A D T) (ClauseP P L I A D T) (ExprP P L I A D T) (ParameterP P L I A D T) (CallArgsP P L I A D T) (FStringP P L I A D T) (ForClauseP P L I A D T) (LambdaP P L I A D T) (TypeExprP P L I A D T)) → lists (roll-AssignTargetP P L I A D T l) < suc n → read_all (target_places (roll-AssignTargetP P L I A D T l)) ≡ target_reads (roll-AssignTargetP P L I A D T l)
+  target_layer_reads n smaller (layer.AssignTargetP::Tuple xs) few =
+      let is : lists (roll-AssignTargetP P L I A D T (layer.AssignTargetP::Tuple xs)) ≡ sum_by (λ x. lists x.node) xs.items + 1 = ap lists (target.rolls-Tuple xs) ∙ lists-Tuple xs in
+      ap read_all (ap target_places (target.rolls-Tuple xs) ∙ target_places-Tuple xs) ∙ targets_read n smaller xs.items (omega (arith, few, is)) ∙ sym (fold-roll-AssignTargetP P L I A D T _ _ _ _ _ _ _ _ _ _ argument_names target_names clause_names expr_names parameter_names call_args_names fstring_names for_clause_names lambda_names type_names (layer.AssignTargetP::Tuple xs) ∙ flat_map-map _ _ xs.items)
+  target_layer_reads n smaller (layer.AssignTargetP::Index x) few = ap read_all (ap target_places (target.rolls-Index x) ∙ target_places-Index x) ∙ two_read x.value.0 x.value.1 ∙ sym (fold-roll-AssignTargetP P L I A D T _ _ _ _ _ _ _ _ _ _ argument_names target_names clause_names expr_names parameter_names call_args_names fstring_names for_clause_names lambda_names type_names (layer.AssignTargetP::Index x))
+  target_layer_reads n smaller (layer.AssignTargetP::Dot x name) few = ap read_all (ap target_places (target.rolls-Dot x name) ∙ target_places-Dot x name) ∙ one_reads x.value ∙ sym (fold-roll-AssignTargetP P L I A D T _ _ _ _ _ _ _ _ _ _ argument_names target_names clause_names expr_names parameter_names call_args_names fstring_names for_clause_names lambda_names type_names (layer.AssignTargetP::Dot x name))
+  target_layer_reads n smaller (layer.AssignTargetP::Identifier x) few = ap read_all (ap target_places (target.rolls-Identifier x) ∙ target_places-Identifier x) ∙ sym (fold-roll-AssignTargetP P L I A D T _ _ _ _ _ _ _ _ _ _ argument_names target_names clause_names expr_names parameter_names call_args_names fstring_names for_clause_names lambda_names type_names (layer.AssignTargetP::Identifier x))
 
-  pub expr_reads-Plus : (x : Box (Spanned (ExprP P L I A D T)) Global) → expr_reads (expr.Plus x) ≡ expr_reads x.value.node
-  expr_reads-Plus x = ap expr_reads (sym (expr.rolls-Plus x)) ∙ fold-roll-ExprP P L I A D T _ _ _ _ _ _ _ _ _ _ argument_names target_names clause_names expr_names parameter_names call_args_names fstring_names for_clause_names lambda_names type_names (layer.Plus x)
+  -- the same below a bound
+  target_reads_below : (n : ℕ) (x : Spanned (AssignTargetP P L I A D T)) → lists x.node < n → read_all (target_places x.node) ≡ target_reads x.node
+  target_reads_below zero x few = absurd (omega (arith, few))
+  target_reads_below (suc n) x few =
+      let is = roll-out-AssignTargetP P L I A D T x.node in
+      ap (λ q. read_all (target_places q)) (sym is) ∙ target_layer_reads n (target_reads_below n) (out-AssignTargetP P L I A D T x.node) (omega (arith, few, ap lists is)) ∙ ap target_reads is
 
-  pub expr_reads-BitNot : (x : Box (Spanned (ExprP P L I A D T)) Global) → expr_reads (expr.BitNot x) ≡ expr_reads x.value.node
-  expr_reads-BitNot x = ap expr_reads (sym (expr.rolls-BitNot x)) ∙ fold-roll-ExprP P L I A D T _ _ _ _ _ _ _ _ _ _ argument_names target_names clause_names expr_names parameter_names call_args_names fstring_names for_clause_names lambda_names type_names (layer.BitNot x)
+  target_read : (x : Spanned (AssignTargetP P L I A D T)) → read_all (target_places x.node) ≡ target_reads x.node
+  target_read x = target_reads_below (suc (lists x.node)) x (omega arith)
 
-  pub expr_reads-Op : (x : Box (Spanned (ExprP P L I A D T)) Global) (o : BinOp) (y : Box (Spanned (ExprP P L I A D T)) Global) → expr_reads (expr.Op x o y) ≡ expr_reads x.value.node ++ expr_reads y.value.node
-  expr_reads-Op x o y = ap expr_reads (sym (expr.rolls-Op x o y)) ∙ fold-roll-ExprP P L I A D T _ _ _ _ _ _ _ _ _ _ argument_names target_names clause_names expr_names parameter_names call_args_names fstring_names for_clause_names lambda_names type_names (layer.Op x o y)
+  -- ---- arguments and parameters
 
-  pub expr_reads-If : (x : Box (Spanned (ExprP P L I A D T) × Spanned (ExprP P L I A D T) × Spanned (ExprP P L I A D T)) Global) → expr_reads (expr.If x) ≡ expr_reads x.value.0.node ++ (expr_reads x.value.1.node ++ expr_reads x.value.2.node)
-  expr_reads-If x = ap expr_reads (sym (expr.rolls-If x)) ∙ fold-roll-ExprP P L I A D T _ _ _ _ _ _ _ _ _ _ argument_names target_names clause_names expr_names parameter_names call_args_names fstring_names for_clause_names lambda_names type_names (layer.ExprP::If x)
+  argument_layer_reads : (l : ArgumentP-F P L I A D T (ArgumentP P L I A D T) (AssignTargetP P L I A D T) (ClauseP P L I A D T) (ExprP P L I A D T) (ParameterP P L I A D T) (CallArgsP P L I A D T) (FStringP P L I A D T) (ForClauseP P L I A D T) (LambdaP P L I A D T) (TypeExprP P L I A D T)) → expr_reads (argument_expr_layer l).node ≡ argument_reads (roll-ArgumentP P L I A D T l)
+  argument_layer_reads (layer.Positional x) = sym (fold-roll-ArgumentP P L I A D T _ _ _ _ _ _ _ _ _ _ argument_names target_names clause_names expr_names parameter_names call_args_names fstring_names for_clause_names lambda_names type_names (layer.Positional x))
+  argument_layer_reads (layer.Named name x) = sym (fold-roll-ArgumentP P L I A D T _ _ _ _ _ _ _ _ _ _ argument_names target_names clause_names expr_names parameter_names call_args_names fstring_names for_clause_names lambda_names type_names (layer.Named name x))
+  argument_layer_reads (layer.ArgumentP::Args x) = sym (fold-roll-ArgumentP P L I A D T _ _ _ _ _ _ _ _ _ _ argument_names target_names clause_names expr_names parameter_names call_args_names fstring_names for_clause_names lambda_names type_names (layer.ArgumentP::Args x))
+  argument_layer_reads (layer.ArgumentP::KwArgs x) = sym (fold-roll-ArgumentP P L I A D T _ _ _ _ _ _ _ _ _ _ argument_names target_names clause_names expr_names parameter_names call_args_names fstring_names for_clause_names lambda_names type_names (layer.ArgumentP::KwArgs x))
 
-  pub expr_reads-List : (xs : Vec (Spanned (ExprP P L I A D T)) Global) → expr_reads (expr.List xs) ≡ flat_map (λ x. expr_reads x.node) xs.items
-  expr_reads-List xs = ap expr_reads (sym (expr.rolls-List xs)) ∙ fold-roll-ExprP P L I A D T _ _ _ _ _ _ _ _ _ _ argument_names target_names clause_names expr_names parameter_names call_args_names fstring_names for_clause_names lambda_names type_names (layer.List xs) ∙ flat_map-map _ _ xs.items
+  arguments_read : (xs : List (Spanned (ArgumentP P L I A D T))) → read_all (map argument_place xs) ≡ flat_map (λ y. argument_reads y.node) xs
+  arguments_read xs =
+      ap read_all (sym (flat_map_single argument_place xs))
+      ∙ each_reads (λ y. argument_place y ∷ []) (λ y. argument_reads y.node) xs (λ y. one_reads (argument_place y) ∙ argument_layer_reads (out-ArgumentP P L I A D T y.node) ∙ ap argument_reads (roll-out-ArgumentP P L I A D T y.node))
 
-  pub expr_reads-Dict : (xs : Vec (Spanned (ExprP P L I A D T) × Spanned (ExprP P L I A D T)) Global) → expr_reads (expr.Dict xs) ≡ flat_map (λ x. expr_reads x.0.node ++ expr_reads x.1.node) xs.items
-  expr_reads-Dict xs = ap expr_reads (sym (expr.rolls-Dict xs)) ∙ fold-roll-ExprP P L I A D T _ _ _ _ _ _ _ _ _ _ argument_names target_names clause_names expr_names parameter_names call_args_names fstring_names for_clause_names lambda_names type_names (layer.Dict xs) ∙ flat_map-map _ _ xs.items
+  plain_reads : (x : Spanned (AssignIdentP P L I A D T)) (type : Option (Box (Spanned (TypeExprP P L I A D T)) Global)) (default : Option (Box (E P L I A D T) Global)) → parameter_reads (roll-ParameterP P L I A D T (layer.Normal x type default)) ≡ maybe_type_reads type ++ maybe_reads default
+  plain_reads x None None = fold-roll-ParameterP P L I A D T _ _ _ _ _ _ _ _ _ _ argument_names target_names clause_names expr_names parameter_names call_args_names fstring_names for_clause_names lambda_names type_names (layer.Normal x None None)
+  plain_reads x None (Some default) = fold-roll-ParameterP P L I A D T _ _ _ _ _ _ _ _ _ _ argument_names target_names clause_names expr_names parameter_names call_args_names fstring_names for_clause_names lambda_names type_names (layer.Normal x None (Some default))
+  plain_reads x (Some type) None = fold-roll-ParameterP P L I A D T _ _ _ _ _ _ _ _ _ _ argument_names target_names clause_names expr_names parameter_names call_args_names fstring_names for_clause_names lambda_names type_names (layer.Normal x (Some type) None)
+  plain_reads x (Some type) (Some default) = fold-roll-ParameterP P L I A D T _ _ _ _ _ _ _ _ _ _ argument_names target_names clause_names expr_names parameter_names call_args_names fstring_names for_clause_names lambda_names type_names (layer.Normal x (Some type) (Some default))
 
-  pub expr_reads-ListComprehension : (x : Box (Spanned (ExprP P L I A D T)) Global) (first : Box (ForClauseP P L I A D T) Global) (rest : Vec (ClauseP P L I A D T) Global) → expr_reads (expr.ListComprehension x first rest) ≡ for_clause_reads first.value ++ (flat_map clause_reads rest.items ++ expr_reads x.value.node)
-  expr_reads-ListComprehension x first rest = ap expr_reads (sym (expr.rolls-ListComprehension x first rest)) ∙ fold-roll-ExprP P L I A D T _ _ _ _ _ _ _ _ _ _ argument_names target_names clause_names expr_names parameter_names call_args_names fstring_names for_clause_names lambda_names type_names (layer.ListComprehension x first rest) ∙ ap (λ cs. for_clause_reads first.value ++ (cs ++ expr_reads x.value.node)) (flat_map-map _ _ rest.items)
+  args_reads : (x : Spanned (AssignIdentP P L I A D T)) (type : Option (Box (Spanned (TypeExprP P L I A D T)) Global)) → parameter_reads (roll-ParameterP P L I A D T (layer.ParameterP::Args x type)) ≡ maybe_type_reads type
+  args_reads x None = fold-roll-ParameterP P L I A D T _ _ _ _ _ _ _ _ _ _ argument_names target_names clause_names expr_names parameter_names call_args_names fstring_names for_clause_names lambda_names type_names (layer.ParameterP::Args x None)
+  args_reads x (Some type) = fold-roll-ParameterP P L I A D T _ _ _ _ _ _ _ _ _ _ argument_names target_names clause_names expr_names parameter_names call_args_names fstring_names for_clause_names lambda_names type_names (layer.ParameterP::Args x (Some type))
 
-  pub expr_reads-DictComprehension : (x : Box (Spanned (ExprP P L I A D T) × Spanned (ExprP P L I A D T)) Global) (first : Box (ForClauseP P L I A D T) Global) (rest : Vec (ClauseP P L I A D T) Global) → expr_reads (expr.DictComprehension x first rest) ≡ for_clause_reads first.value ++ (flat_map clause_reads rest.items ++ (expr_reads x.value.0.node ++ expr_reads x.value.1.node))
-  expr_reads-DictComprehension x first rest = ap expr_reads (sym (expr.rolls-DictComprehension x first rest)) ∙ fold-roll-ExprP P L I A D T _ _ _ _ _ _ _ _ _ _ argument_names target_names clause_names expr_names parameter_names call_args_names fstring_names for_clause_names lambda_names type_names (layer.DictComprehension x first rest) ∙ ap (λ cs. for_clause_reads first.value ++ (cs ++ (expr_reads x.value.0.node ++ expr_reads x.value.1.node))) (flat_map-map _ _ rest.items)
+  kwargs_reads : (x : Spanned (AssignIdentP P L I A D T)) (type : Option (Box (Spanned (TypeExprP P L I A D T)) Global)) → parameter_reads (roll-ParameterP P L I A D T (layer.ParameterP::KwArgs x type)) ≡ maybe_type_reads type
+  kwargs_reads x None = fold-roll-ParameterP P L I A D T _ _ _ _ _ _ _ _ _ _ argument_names target_names clause_names expr_names parameter_names call_args_names fstring_names for_clause_names lambda_names type_names (layer.ParameterP::KwArgs x None)
+  kwargs_reads x (Some type) = fold-roll-ParameterP P L I A D T _ _ _ _ _ _ _ _ _ _ argument_names target_names clause_names expr_names parameter_names call_args_names fstring_names for_clause_names lambda_names type_names (layer.ParameterP::KwArgs x (Some type))
 
-  pub expr_reads-FString : (x : Spanned (FStringP P L I A D T)) → expr_reads (expr.FString x) ≡ fstring_reads x.node
-  expr_reads-FString x = ap expr_reads (sym (expr.rolls-FString x)) ∙ fold-roll-ExprP P L I A D T _ _ _ _ _ _ _ _ _ _ argument_names target_names clause_names expr_names parameter_names call_args_names fstring_names for_clause_names lambda_names type_names (layer.FString x)
+  parameter_layer_reads : (l : ParameterP-F P L I A D T (ArgumentP P L I A D T) (AssignTargetP P L I A D T) (ClauseP P L I A D T) (ExprP P L I A D T) (ParameterP P L I A D T) (CallArgsP P L I A D T) (FStringP P L I A D T) (ForClauseP P L I A D T) (LambdaP P L I A D T) (TypeExprP P L I A D T)) → read_all (parameter_layer l) ≡ parameter_reads (roll-ParameterP P L I A D T l)
+  parameter_layer_reads layer.Slash = sym (fold-roll-ParameterP P L I A D T _ _ _ _ _ _ _ _ _ _ argument_names target_names clause_names expr_names parameter_names call_args_names fstring_names for_clause_names lambda_names type_names (layer.Slash))
+  parameter_layer_reads (layer.Normal x type default) = both_read (maybe_type_place type) (maybe_place default) _ _ (type_read type) (maybe_read default) ∙ sym (plain_reads x type default)
+  parameter_layer_reads layer.NoArgs = sym (fold-roll-ParameterP P L I A D T _ _ _ _ _ _ _ _ _ _ argument_names target_names clause_names expr_names parameter_names call_args_names fstring_names for_clause_names lambda_names type_names (layer.NoArgs))
+  parameter_layer_reads (layer.ParameterP::Args x type) = type_read type ∙ sym (args_reads x type)
+  parameter_layer_reads (layer.ParameterP::KwArgs x type) = type_read type ∙ sym (kwargs_reads x type)
 
-  pub argument_reads-Positional : (x : Spanned (ExprP P L I A D T)) → argument_reads (argument.Positional x) ≡ expr_reads x.node
-  argument_reads-Positional x = ap argument_reads (sym (argument.rolls-Positional x)) ∙ fold-roll-ArgumentP P L I A D T _ _ _ _ _ _ _ _ _ _ argument_names target_names clause_names expr_names parameter_names call_args_names fstring_names for_clause_names lambda_names type_names (layer.Positional x)
+  parameter_read : (x : Spanned (ParameterP P L I A D T)) → read_all (parameter_places x.node) ≡ parameter_reads x.node
+  parameter_read x = parameter_layer_reads (out-ParameterP P L I A D T x.node) ∙ ap parameter_reads (roll-out-ParameterP P L I A D T x.node)
 
-  pub argument_reads-Named : (n : Spanned (String Global)) (x : Spanned (ExprP P L I A D T)) → argument_reads (argument.Named n x) ≡ expr_reads x.node
-  argument_reads-Named n x = ap argument_reads (sym (argument.rolls-Named n x)) ∙ fold-roll-ArgumentP P L I A D T _ _ _ _ _ _ _ _ _ _ argument_names target_names clause_names expr_names parameter_names call_args_names fstring_names for_clause_names lambda_names type_names (layer.Named n x)
+  -- ---- clauses
 
-  pub argument_reads-Args : (x : Spanned (ExprP P L I A D T)) → argument_reads (argument.Args x) ≡ expr_reads x.node
-  argument_reads-Args x = ap argument_reads (sym (argument.rolls-Args x)) ∙ fold-roll-ArgumentP P L I A D T _ _ _ _ _ _ _ _ _ _ argument_names target_names clause_names expr_names parameter_names call_args_names fstring_names for_clause_names lambda_names type_names (layer.ArgumentP::Args x)
+  for_clause_read : (x : ForClauseP P L I A D T) → read_all (for_clause_places x) ≡ for_clause_reads x
+  for_clause_read x = both_read (target_places x.var.node) (x.over ∷ []) _ _ (target_read x.var) (one_reads x.over) ∙ sym (fold_out-ForClauseP P L I A D T _ _ _ _ _ _ _ _ _ _ argument_names target_names clause_names expr_names parameter_names call_args_names fstring_names for_clause_names lambda_names type_names x)
 
-  pub argument_reads-KwArgs : (x : Spanned (ExprP P L I A D T)) → argument_reads (argument.KwArgs x) ≡ expr_reads x.node
-  argument_reads-KwArgs x = ap argument_reads (sym (argument.rolls-KwArgs x)) ∙ fold-roll-ArgumentP P L I A D T _ _ _ _ _ _ _ _ _ _ argument_names target_names clause_names expr_names parameter_names call_args_names fstring_names for_clause_names lambda_names type_names (layer.ArgumentP::KwArgs x)
+  clause_layer_reads : (l : ClauseP-F P L I A D T (ArgumentP P L I A D T) (AssignTargetP P L I A D T) (ClauseP P L I A D T) (ExprP P L I A D T) (ParameterP P L I A D T) (CallArgsP P L I A D T) (FStringP P L I A D T) (ForClauseP P L I A D T) (LambdaP P L I A D T) (TypeExprP P L I A D T)) → read_all (clause_layer l) ≡ clause_reads (roll-ClauseP P L I A D T l)
+  clause_layer_reads (layer.For x) = for_clause_read x ∙ sym (fold-roll-ClauseP P L I A D T _ _ _ _ _ _ _ _ _ _ argument_names target_names clause_names expr_names parameter_names call_args_names fstring_names for_clause_names lambda_names type_names (layer.For x))
+  clause_layer_reads (layer.ClauseP::If x) = one_reads x ∙ sym (fold-roll-ClauseP P L I A D T _ _ _ _ _ _ _ _ _ _ argument_names target_names clause_names expr_names parameter_names call_args_names fstring_names for_clause_names lambda_names type_names (layer.ClauseP::If x))
 
-  pub parameter_reads-Normal : (x : Spanned (AssignIdentP P L I A D T)) (t : Option (Box (Spanned (TypeExprP P L I A D T)) Global)) (d : Option (Box (Spanned (ExprP P L I A D T)) Global)) → parameter_reads (param.Normal x t d) ≡ maybe_type_reads t ++ maybe_reads d
-  parameter_reads-Normal x None None = ap parameter_reads (sym (param.rolls-Normal x None None)) ∙ fold-roll-ParameterP P L I A D T _ _ _ _ _ _ _ _ _ _ argument_names target_names clause_names expr_names parameter_names call_args_names fstring_names for_clause_names lambda_names type_names (layer.Normal x None None)
-  parameter_reads-Normal x None (Some d) = ap parameter_reads (sym (param.rolls-Normal x None (Some d))) ∙ fold-roll-ParameterP P L I A D T _ _ _ _ _ _ _ _ _ _ argument_names target_names clause_names expr_names parameter_names call_args_names fstring_names for_clause_names lambda_names type_names (layer.Normal x None (Some d))
-  parameter_reads-Normal x (Some t) None = ap parameter_reads (sym (param.rolls-Normal x (Some t) None)) ∙ fold-roll-ParameterP P L I A D T _ _ _ _ _ _ _ _ _ _ argument_names target_names clause_names expr_names parameter_names call_args_names fstring_names for_clause_names lambda_names type_names (layer.Normal x (Some t) None)
-  parameter_reads-Normal x (Some t) (Some d) = ap parameter_reads (sym (param.rolls-Normal x (Some t) (Some d))) ∙ fold-roll-ParameterP P L I A D T _ _ _ _ _ _ _ _ _ _ argument_names target_names clause_names expr_names parameter_names call_args_names fstring_names for_clause_names lambda_names type_names (layer.Normal x (Some t) (Some d))
+  clause_read : (x : ClauseP P L I A D T) → read_all (clause_places x) ≡ clause_reads x
+  clause_read x = clause_layer_reads (out-ClauseP P L I A D T x) ∙ ap clause_reads (roll-out-ClauseP P L I A D T x)
 
-  pub parameter_reads-Args : (x : Spanned (AssignIdentP P L I A D T)) (t : Option (Box (Spanned (TypeExprP P L I A D T)) Global)) → parameter_reads (param.Args x t) ≡ maybe_type_reads t
-  parameter_reads-Args x None = ap parameter_reads (sym (param.rolls-Args x None)) ∙ fold-roll-ParameterP P L I A D T _ _ _ _ _ _ _ _ _ _ argument_names target_names clause_names expr_names parameter_names call_args_names fstring_names for_clause_names lambda_names type_names (layer.ParameterP::Args x None)
-  parameter_reads-Args x (Some t) = ap parameter_reads (sym (param.rolls-Args x (Some t))) ∙ fold-roll-ParameterP P L I A D T _ _ _ _ _ _ _ _ _ _ argument_names target_names clause_names expr_names parameter_names call_args_names fstring_names for_clause_names lambda_names type_names (layer.ParameterP::Args x (Some t))
+  -- clauses, and what they make
+  comprehension_read : (first : ForClauseP P L I A D T) (rest : List (ClauseP P L I A D T)) (xs : List (E P L I A D T)) (m : List (N P L I A D T)) → read_all xs ≡ m → read_all (for_clause_places first ++ (flat_map clause_places rest ++ xs)) ≡ for_clause_reads first ++ (flat_map clause_reads rest ++ m)
+  comprehension_read first rest xs m h = both_read (for_clause_places first) (flat_map clause_places rest ++ xs) _ _ (for_clause_read first) (both_read (flat_map clause_places rest) xs _ _ (each_reads clause_places clause_reads rest clause_read) h)
 
-  pub parameter_reads-KwArgs : (x : Spanned (AssignIdentP P L I A D T)) (t : Option (Box (Spanned (TypeExprP P L I A D T)) Global)) → parameter_reads (param.KwArgs x t) ≡ maybe_type_reads t
-  parameter_reads-KwArgs x None = ap parameter_reads (sym (param.rolls-KwArgs x None)) ∙ fold-roll-ParameterP P L I A D T _ _ _ _ _ _ _ _ _ _ argument_names target_names clause_names expr_names parameter_names call_args_names fstring_names for_clause_names lambda_names type_names (layer.ParameterP::KwArgs x None)
-  parameter_reads-KwArgs x (Some t) = ap parameter_reads (sym (param.rolls-KwArgs x (Some t))) ∙ fold-roll-ParameterP P L I A D T _ _ _ _ _ _ _ _ _ _ argument_names target_names clause_names expr_names parameter_names call_args_names fstring_names for_clause_names lambda_names type_names (layer.ParameterP::KwArgs x (Some t))
+  -- ---- an expression
 
-  pub target_reads-Tuple : (xs : Vec (Spanned (AssignTargetP P L I A D T)) Global) → target_reads (target.Tuple xs) ≡ flat_map (λ x. target_reads x.node) xs.items
-  target_reads-Tuple xs = ap target_reads (sym (target.rolls-Tuple xs)) ∙ fold-roll-AssignTargetP P L I A D T _ _ _ _ _ _ _ _ _ _ argument_names target_names clause_names expr_names parameter_names call_args_names fstring_names for_clause_names lambda_names type_names (layer.AssignTargetP::Tuple xs) ∙ flat_map-map _ _ xs.items
+  slice_reads : (x : Box (E P L I A D T) Global) (a b c : Option (Box (E P L I A D T) Global)) → expr_reads (roll-ExprP P L I A D T (layer.Slice x a b c)) ≡ expr_reads x.value.node ++ (maybe_reads a ++ (maybe_reads b ++ maybe_reads c))
+  slice_reads x None None None = fold-roll-ExprP P L I A D T _ _ _ _ _ _ _ _ _ _ argument_names target_names clause_names expr_names parameter_names call_args_names fstring_names for_clause_names lambda_names type_names (layer.Slice x None None None)
+  slice_reads x None None (Some c) = fold-roll-ExprP P L I A D T _ _ _ _ _ _ _ _ _ _ argument_names target_names clause_names expr_names parameter_names call_args_names fstring_names for_clause_names lambda_names type_names (layer.Slice x None None (Some c))
+  slice_reads x None (Some b) None = fold-roll-ExprP P L I A D T _ _ _ _ _ _ _ _ _ _ argument_names target_names clause_names expr_names parameter_names call_args_names fstring_names for_clause_names lambda_names type_names (layer.Slice x None (Some b) None)
+  slice_reads x None (Some b) (Some c) = fold-roll-ExprP P L I A D T _ _ _ _ _ _ _ _ _ _ argument_names target_names clause_names expr_names parameter_names call_args_names fstring_names for_clause_names lambda_names type_names (layer.Slice x None (Some b) (Some c))
+  slice_reads x (Some a) None None = fold-roll-ExprP P L I A D T _ _ _ _ _ _ _ _ _ _ argument_names target_names clause_names expr_names parameter_names call_args_names fstring_names for_clause_names lambda_names type_names (layer.Slice x (Some a) None None)
+  slice_reads x (Some a) None (Some c) = fold-roll-ExprP P L I A D T _ _ _ _ _ _ _ _ _ _ argument_names target_names clause_names expr_names parameter_names call_args_names fstring_names for_clause_names lambda_names type_names (layer.Slice x (Some a) None (Some c))
+  slice_reads x (Some a) (Some b) None = fold-roll-ExprP P L I A D T _ _ _ _ _ _ _ _ _ _ argument_names target_names clause_names expr_names parameter_names call_args_names fstring_names for_clause_names lambda_names type_names (layer.Slice x (Some a) (Some b) None)
+  slice_reads x (Some a) (Some b) (Some c) = fold-roll-ExprP P L I A D T _ _ _ _ _ _ _ _ _ _ argument_names target_names clause_names expr_names parameter_names call_args_names fstring_names for_clause_names lambda_names type_names (layer.Slice x (Some a) (Some b) (Some c))
 
-  pub target_reads-Index : (x : Box (Spanned (ExprP P L I A D T) × Spanned (ExprP P L I A D T)) Global) → target_reads (target.Index x) ≡ expr_reads x.value.0.node ++ expr_reads x.value.1.node
-  target_reads-Index x = ap target_reads (sym (target.rolls-Index x)) ∙ fold-roll-AssignTargetP P L I A D T _ _ _ _ _ _ _ _ _ _ argument_names target_names clause_names expr_names parameter_names call_args_names fstring_names for_clause_names lambda_names type_names (layer.AssignTargetP::Index x)
+  -- what is no identifier, by its layer
+  layer_reads : (l : ExprLayer P L I A D T) → ((y : N P L I A D T) → roll-ExprP P L I A D T l ≡ expr.Identifier y → ⊥) → read_all (expr_layer l) ≡ expr_reads (roll-ExprP P L I A D T l)
+  layer_reads (layer.ExprP::Tuple xs) other = sym (fold-roll-ExprP P L I A D T _ _ _ _ _ _ _ _ _ _ argument_names target_names clause_names expr_names parameter_names call_args_names fstring_names for_clause_names lambda_names type_names (layer.ExprP::Tuple xs) ∙ flat_map-map _ _ xs.items)
+  layer_reads (layer.ExprP::Dot x name) other = one_reads x.value ∙ sym (fold-roll-ExprP P L I A D T _ _ _ _ _ _ _ _ _ _ argument_names target_names clause_names expr_names parameter_names call_args_names fstring_names for_clause_names lambda_names type_names (layer.ExprP::Dot x name))
+  layer_reads (layer.Call x args) other = ap (λ q. expr_reads x.value.node ++ q) (arguments_read args.args.items ∙ sym (fold_out-CallArgsP P L I A D T _ _ _ _ _ _ _ _ _ _ argument_names target_names clause_names expr_names parameter_names call_args_names fstring_names for_clause_names lambda_names type_names args ∙ flat_map-map _ _ args.args.items)) ∙ sym (fold-roll-ExprP P L I A D T _ _ _ _ _ _ _ _ _ _ argument_names target_names clause_names expr_names parameter_names call_args_names fstring_names for_clause_names lambda_names type_names (layer.Call x args))
+  layer_reads (layer.ExprP::Index x) other = two_read x.value.0 x.value.1 ∙ sym (fold-roll-ExprP P L I A D T _ _ _ _ _ _ _ _ _ _ argument_names target_names clause_names expr_names parameter_names call_args_names fstring_names for_clause_names lambda_names type_names (layer.ExprP::Index x))
+  layer_reads (layer.Index2 x) other = ap (λ q. expr_reads x.value.0.node ++ q) (two_read x.value.1 x.value.2) ∙ sym (fold-roll-ExprP P L I A D T _ _ _ _ _ _ _ _ _ _ argument_names target_names clause_names expr_names parameter_names call_args_names fstring_names for_clause_names lambda_names type_names (layer.Index2 x))
+  layer_reads (layer.Slice x a b c) other = ap (λ q. expr_reads x.value.node ++ q) (both_read (maybe_place a) (maybe_place b ++ maybe_place c) _ _ (maybe_read a) (both_read (maybe_place b) (maybe_place c) _ _ (maybe_read b) (maybe_read c))) ∙ sym (slice_reads x a b c)
+  layer_reads (layer.ExprP::Identifier x) other = absurd (other x (expr.rolls-Identifier x))
+  layer_reads (layer.Lambda x) other = both_read (flat_map (λ p. parameter_places p.node) x.params.items) (x.body.value ∷ []) _ _ (each_reads (λ p. parameter_places p.node) (λ p. parameter_reads p.node) x.params.items parameter_read) (one_reads x.body.value) ∙ sym (fold_out-LambdaP P L I A D T _ _ _ _ _ _ _ _ _ _ argument_names target_names clause_names expr_names parameter_names call_args_names fstring_names for_clause_names lambda_names type_names x ∙ ap (λ q. q ++ expr_reads x.body.value.node) (flat_map-map _ _ x.params.items)) ∙ sym (fold-roll-ExprP P L I A D T _ _ _ _ _ _ _ _ _ _ argument_names target_names clause_names expr_names parameter_names call_args_names fstring_names for_clause_names lambda_names type_names (layer.Lambda x))
+  layer_reads (layer.Literal x) other = sym (fold-roll-ExprP P L I A D T _ _ _ _ _ _ _ _ _ _ argument_names target_names clause_names expr_names parameter_names call_args_names fstring_names for_clause_names lambda_names type_names (layer.Literal x))
+  layer_reads (layer.Not x) other = one_reads x.value ∙ sym (fold-roll-ExprP P L I A D T _ _ _ _ _ _ _ _ _ _ argument_names target_names clause_names expr_names parameter_names call_args_names fstring_names for_clause_names lambda_names type_names (layer.Not x))
+  layer_reads (layer.Minus x) other = one_reads x.value ∙ sym (fold-roll-ExprP P L I A D T _ _ _ _ _ _ _ _ _ _ argument_names target_names clause_names expr_names parameter_names call_args_names fstring_names for_clause_names lambda_names type_names (layer.Minus x))
+  layer_reads (layer.Plus x) other = one_reads x.value ∙ sym (fold-roll-ExprP P L I A D T _ _ _ _ _ _ _ _ _ _ argument_names target_names clause_names expr_names parameter_names call_args_names fstring_names for_clause_names lambda_names type_names (layer.Plus x))
+  layer_reads (layer.BitNot x) other = one_reads x.value ∙ sym (fold-roll-ExprP P L I A D T _ _ _ _ _ _ _ _ _ _ argument_names target_names clause_names expr_names parameter_names call_args_names fstring_names for_clause_names lambda_names type_names (layer.BitNot x))
+  layer_reads (layer.Op x o y) other = two_read x.value y.value ∙ sym (fold-roll-ExprP P L I A D T _ _ _ _ _ _ _ _ _ _ argument_names target_names clause_names expr_names parameter_names call_args_names fstring_names for_clause_names lambda_names type_names (layer.Op x o y))
+  layer_reads (layer.ExprP::If x) other = ap (λ q. expr_reads x.value.0.node ++ q) (two_read x.value.1 x.value.2) ∙ sym (fold-roll-ExprP P L I A D T _ _ _ _ _ _ _ _ _ _ argument_names target_names clause_names expr_names parameter_names call_args_names fstring_names for_clause_names lambda_names type_names (layer.ExprP::If x))
+  layer_reads (layer.List xs) other = sym (fold-roll-ExprP P L I A D T _ _ _ _ _ _ _ _ _ _ argument_names target_names clause_names expr_names parameter_names call_args_names fstring_names for_clause_names lambda_names type_names (layer.List xs) ∙ flat_map-map _ _ xs.items)
+  layer_reads (layer.Dict xs) other = each_reads pair_places (λ x. expr_reads x.0.node ++ expr_reads x.1.node) xs.items (λ x. two_read x.0 x.1) ∙ sym (fold-roll-ExprP P L I A D T _ _ _ _ _ _ _ _ _ _ argument_names target_names clause_names expr_names parameter_names call_args_names fstring_names for_clause_names lambda_names type_names (layer.Dict xs) ∙ flat_map-map _ _ xs.items)
+  layer_reads (layer.ListComprehension x first rest) other = comprehension_read first.value rest.items (x.value ∷ []) _ (one_reads x.value) ∙ sym (fold-roll-ExprP P L I A D T _ _ _ _ _ _ _ _ _ _ argument_names target_names clause_names expr_names parameter_names call_args_names fstring_names for_clause_names lambda_names type_names (layer.ListComprehension x first rest) ∙ ap (λ q. for_clause_reads first.value ++ (q ++ expr_reads x.value.node)) (flat_map-map _ _ rest.items))
+  layer_reads (layer.DictComprehension x first rest) other = comprehension_read first.value rest.items (x.value.0 ∷ x.value.1 ∷ []) _ (two_read x.value.0 x.value.1) ∙ sym (fold-roll-ExprP P L I A D T _ _ _ _ _ _ _ _ _ _ argument_names target_names clause_names expr_names parameter_names call_args_names fstring_names for_clause_names lambda_names type_names (layer.DictComprehension x first rest) ∙ ap (λ q. for_clause_reads first.value ++ (q ++ (expr_reads x.value.0.node ++ expr_reads x.value.1.node))) (flat_map-map _ _ rest.items))
+  layer_reads (layer.FString x) other = sym (fold_out-FStringP P L I A D T _ _ _ _ _ _ _ _ _ _ argument_names target_names clause_names expr_names parameter_names call_args_names fstring_names for_clause_names lambda_names type_names x.node ∙ flat_map-map _ _ x.node.expressions.items) ∙ sym (fold-roll-ExprP P L I A D T _ _ _ _ _ _ _ _ _ _ argument_names target_names clause_names expr_names parameter_names call_args_names fstring_names for_clause_names lambda_names type_names (layer.FString x))
 
-  pub target_reads-Dot : (x : Box (Spanned (ExprP P L I A D T)) Global) (name : Spanned (String Global)) → target_reads (target.Dot x name) ≡ expr_reads x.value.node
-  target_reads-Dot x name = ap target_reads (sym (target.rolls-Dot x name)) ∙ fold-roll-AssignTargetP P L I A D T _ _ _ _ _ _ _ _ _ _ argument_names target_names clause_names expr_names parameter_names call_args_names fstring_names for_clause_names lambda_names type_names (layer.AssignTargetP::Dot x name)
+  -- What is no identifier reads what the expressions right below it read.
+  pub reads_below : (x : ExprP P L I A D T) → ((y : N P L I A D T) → x ≡ expr.Identifier y → ⊥) → flat_map (λ y. expr_reads y.node) (children x) ≡ expr_reads x
+  reads_below x other =
+      let is = roll-out-ExprP P L I A D T x in
+      layer_reads (out-ExprP P L I A D T x) (λ y e. other y (sym is ∙ e)) ∙ ap expr_reads is
 
-  pub target_reads-Identifier : (x : Spanned (AssignIdentP P L I A D T)) → target_reads (target.Identifier x) ≡ []
-  target_reads-Identifier x = ap target_reads (sym (target.rolls-Identifier x)) ∙ fold-roll-AssignTargetP P L I A D T _ _ _ _ _ _ _ _ _ _ argument_names target_names clause_names expr_names parameter_names call_args_names fstring_names for_clause_names lambda_names type_names (layer.AssignTargetP::Identifier x)
-
-  pub clause_reads-For : (x : ForClauseP P L I A D T) → clause_reads (clause.For x) ≡ for_clause_reads x
-  clause_reads-For x = ap clause_reads (sym (clause.rolls-For x)) ∙ fold-roll-ClauseP P L I A D T _ _ _ _ _ _ _ _ _ _ argument_names target_names clause_names expr_names parameter_names call_args_names fstring_names for_clause_names lambda_names type_names (layer.For x)
-
-  pub clause_reads-If : (x : Spanned (ExprP P L I A D T)) → clause_reads (clause.If x) ≡ expr_reads x.node
-  clause_reads-If x = ap clause_reads (sym (clause.rolls-If x)) ∙ fold-roll-ClauseP P L I A D T _ _ _ _ _ _ _ _ _ _ argument_names target_names clause_names expr_names parameter_names call_args_names fstring_names for_clause_names lambda_names type_names (layer.ClauseP::If x)
-
-  pub call_args_reads-parts : (x : CallArgsP P L I A D T) → call_args_reads x ≡ flat_map (λ y. argument_reads y.node) x.args.items
-  call_args_reads-parts x = fold_out-CallArgsP P L I A D T _ _ _ _ _ _ _ _ _ _ argument_names target_names clause_names expr_names parameter_names call_args_names fstring_names for_clause_names lambda_names type_names x ∙ flat_map-map _ _ x.args.items
-
-  pub fstring_reads-parts : (x : FStringP P L I A D T) → fstring_reads x ≡ flat_map (λ y. expr_reads y.node) x.expressions.items
-  fstring_reads-parts x = fold_out-FStringP P L I A D T _ _ _ _ _ _ _ _ _ _ argument_names target_names clause_names expr_names parameter_names call_args_names fstring_names for_clause_names lambda_names type_names x ∙ flat_map-map _ _ x.expressions.items
-
-  pub for_clause_reads-parts : (x : ForClauseP P L I A D T) → for_clause_reads x ≡ target_reads x.var.node ++ expr_reads x.over.node
-  for_clause_reads-parts x = fold_out-ForClauseP P L I A D T _ _ _ _ _ _ _ _ _ _ argument_names target_names clause_names expr_names parameter_names call_args_names fstring_names for_clause_names lambda_names type_names x
-
-  pub lambda_reads-parts : (x : LambdaP P L I A D T) → lambda_reads x ≡ flat_map (λ y. parameter_reads y.node) x.params.items ++ expr_reads x.body.value.node
-  lambda_reads-parts x = fold_out-LambdaP P L I A D T _ _ _ _ _ _ _ _ _ _ argument_names target_names clause_names expr_names parameter_names call_args_names fstring_names for_clause_names lambda_names type_names x ∙ ap (λ ns. ns ++ expr_reads x.body.value.node) (flat_map-map _ _ x.params.items)
-
-  pub type_reads-parts : (x : TypeExprP P L I A D T) → type_reads x ≡ expr_reads x.expr.node
-  type_reads-parts x = fold_out-TypeExprP P L I A D T _ _ _ _ _ _ _ _ _ _ argument_names target_names clause_names expr_names parameter_names call_args_names fstring_names for_clause_names lambda_names type_names x
-
--- without a part that names the payloads
-module _ (P L I A D T : Type 0) where
-  pub expr_reads-Literal : (x : AstLiteral) → expr_reads {P = P} {L = L} {I = I} {A = A} {D = D} {T = T} (expr.Literal x) ≡ []
-  expr_reads-Literal x = ap (expr_reads {P = P} {L = L} {I = I} {A = A} {D = D} {T = T}) (sym (expr.rolls-Literal x)) ∙ fold-roll-ExprP P L I A D T _ _ _ _ _ _ _ _ _ _ argument_names target_names clause_names expr_names parameter_names call_args_names fstring_names for_clause_names lambda_names type_names (layer.Literal x)
-
-  pub parameter_reads-Slash : parameter_reads {P = P} {L = L} {I = I} {A = A} {D = D} {T = T} param.Slash ≡ []
-  parameter_reads-Slash = ap (parameter_reads {P = P} {L = L} {I = I} {A = A} {D = D} {T = T}) (sym param.rolls-Slash) ∙ fold-roll-ParameterP P L I A D T _ _ _ _ _ _ _ _ _ _ argument_names target_names clause_names expr_names parameter_names call_args_names fstring_names for_clause_names lambda_names type_names layer.Slash
-
-  pub parameter_reads-NoArgs : parameter_reads {P = P} {L = L} {I = I} {A = A} {D = D} {T = T} param.NoArgs ≡ []
-  parameter_reads-NoArgs = ap (parameter_reads {P = P} {L = L} {I = I} {A = A} {D = D} {T = T}) (sym param.rolls-NoArgs) ∙ fold-roll-ParameterP P L I A D T _ _ _ _ _ _ _ _ _ _ argument_names target_names clause_names expr_names parameter_names call_args_names fstring_names for_clause_names lambda_names type_names layer.NoArgs
+  -- An identifier reads itself.
+  pub reads_itself : (x : Spanned (IdentP P L I A D T)) → expr_reads (expr.Identifier x) ≡ x ∷ []
+  reads_itself x = ap expr_reads (sym (expr.rolls-Identifier x)) ∙ fold-roll-ExprP P L I A D T _ _ _ _ _ _ _ _ _ _ argument_names target_names clause_names expr_names parameter_names call_args_names fstring_names for_clause_names lambda_names type_names (layer.ExprP::Identifier x)

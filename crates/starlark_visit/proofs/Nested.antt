@@ -20,7 +20,7 @@ module _ {P L I A D T : Type 0} where
   abbrev pub lists : AssignTargetP P L I A D T → ℕ
   lists = fold-AssignTargetP P L I A D T (Unit {0}) ℕ (Unit {0}) (Unit {0}) (Unit {0}) (Unit {0}) (Unit {0}) (Unit {0}) (Unit {0}) (Unit {0}) (λ x. tt) lists_layer (λ x. tt) (λ x. tt) (λ x. tt) (λ x. tt) (λ x. tt) (λ x. tt) (λ x. tt) (λ x. tt)
 
-  lists-Tuple : (xs : Vec (Spanned (AssignTargetP P L I A D T)) Global) → lists (target.Tuple xs) ≡ sum_by (λ x. lists x.node) xs.items + 1
+  pub lists-Tuple : (xs : Vec (Spanned (AssignTargetP P L I A D T)) Global) → lists (target.Tuple xs) ≡ sum_by (λ x. lists x.node) xs.items + 1
   lists-Tuple xs =
       ap lists (sym (target.rolls-Tuple xs)) ∙ fold-roll-AssignTargetP P L I A D T _ _ _ _ _ _ _ _ _ _ (λ x. tt) lists_layer (λ x. tt) (λ x. tt) (λ x. tt) (λ x. tt) (λ x. tt) (λ x. tt) (λ x. tt) (λ x. tt) (layer.AssignTargetP::Tuple xs) ∙ ap (λ n. n + 1) (fold-map _ _ 0 xs.items)
 

@@ -103,10 +103,22 @@ fn statements(rt: HostRuntime) -> Result<(), Fail> {
 #[test]
 fn identifiers(rt: HostRuntime) -> Result<(), Fail> {
     let alloc = rt.alloc();
-    let module = parsed(alloc, "f(a, b.c)")?;
+    let module = parsed(alloc, "(f(a, b.c))")?;
+    let tree = &module.statement().node;
     let mut seen = 0;
-    let mut read = |x: &AstIdent| seen = noted(seen, x.span.begin().get());
-    module.statement().node.visit_ident(&mut read);
-    assert_eq!(rt; seen, 2_05);
+    let answer = tree.visit_ident(&mut |x: &AstIdent| -> Result<(), u32> {
+        seen = noted(seen, x.span.begin().get());
+        Ok(())
+    });
+    assert_eq!(rt; answer, Ok(()));
+    assert_eq!(rt; seen, 1_03_06);
+    let mut seen = 0;
+    let answer = tree.visit_ident(&mut |x: &AstIdent| -> Result<(), u32> {
+        let begin = x.span.begin().get();
+        seen = noted(seen, begin);
+        if begin == 3 { Err(begin) } else { Ok(()) }
+    });
+    assert_eq!(rt; answer, Err(3));
+    assert_eq!(rt; seen, 1_03);
     Ok(())
 }

@@ -1,16 +1,18 @@
-use Rattle.std.proofs.Common.{ap, sym}
+use Rattle.std.proofs.Common.{ap, sym, ◌∙◌}
 use Rattle.starlark_grammar.specs.Language.{uncommented}
-use Rattle.starlark_read.proofs.Answering.{opened, refused_text, whole_texts}
+use Rattle.starlark_read.proofs.Answering.{at_ok, opened, refused_text, whole_texts}
 use Rattle.starlark_read.proofs.read.read.Goals as goal
 
-pub returns-clause-whole : goal.returns-clause-whole
-returns-clause-whole g c = c.program-answer.ensures.whole _ _ (opened c.new-tokens.ensures c.in-Ok.ensures.tokens (sym (ap (λ z. uncommented z.left) c.new-feed.ensures.lexer)) c.in-Ok.ensures.aside)
+pub returns-in-Ok-answer-clause-whole : goal.returns-in-Ok-answer-clause-whole
+returns-in-Ok-answer-clause-whole g c = at_ok _ c.in-Ok-answer.is (c.program-answer.ensures.whole _ _ (opened c.new-tokens.ensures c.in-Ok.ensures.tokens (sym (ap (λ z. uncommented z.left) c.new-feed.ensures.lexer)) c.in-Ok.ensures.aside))
 
-pub returns-clause-refused : goal.returns-clause-refused
-returns-clause-refused g c = c.program-answer.ensures.refused _ _ (opened c.new-tokens.ensures c.in-Ok.ensures.tokens (sym (ap (λ z. uncommented z.left) c.new-feed.ensures.lexer)) c.in-Ok.ensures.aside)
+pub returns-in-Ok-answer-clause-language : goal.returns-in-Ok-answer-clause-language
+returns-in-Ok-answer-clause-language g c text h = at_ok _ c.in-Ok-answer.is (whole_texts _ _ _ h (c.program-answer.ensures.whole _ _ (opened c.new-tokens.ensures c.in-Ok.ensures.tokens (sym (ap (λ z. uncommented z.left) c.new-feed.ensures.lexer)) c.in-Ok.ensures.aside)))
 
-pub returns-clause-language : goal.returns-clause-language
-returns-clause-language g c text h = whole_texts _ _ _ h (c.program-answer.ensures.whole _ _ (opened c.new-tokens.ensures c.in-Ok.ensures.tokens (sym (ap (λ z. uncommented z.left) c.new-feed.ensures.lexer)) c.in-Ok.ensures.aside))
+pub returns-in-Err-clause-refused : goal.returns-in-Err-clause-refused
+returns-in-Err-clause-refused g c e f q w =
+    c.program-answer.ensures.refused _ _ (opened c.new-tokens.ensures c.in-Ok.ensures.tokens (sym (ap (λ z. uncommented z.left) c.new-feed.ensures.lexer)) c.in-Ok.ensures.aside) e f (c.in-Err.is ∙ q) w
 
-pub returns-clause-reason : goal.returns-clause-reason
-returns-clause-reason g c text e f h q w = refused_text h (c.program-answer.ensures.refused _ _ (opened c.new-tokens.ensures c.in-Ok.ensures.tokens (sym (ap (λ z. uncommented z.left) c.new-feed.ensures.lexer)) c.in-Ok.ensures.aside) e f q w)
+pub returns-in-Err-clause-reason : goal.returns-in-Err-clause-reason
+returns-in-Err-clause-reason g c text e f h q w =
+    refused_text h (c.program-answer.ensures.refused _ _ (opened c.new-tokens.ensures c.in-Ok.ensures.tokens (sym (ap (λ z. uncommented z.left) c.new-feed.ensures.lexer)) c.in-Ok.ensures.aside) e f (c.in-Err.is ∙ q) w)

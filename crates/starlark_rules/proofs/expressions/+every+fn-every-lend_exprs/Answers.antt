@@ -5,9 +5,9 @@ use Rattle.starlark_ast.specs.View.{expr_at}
 use Rattle.starlark_rulebook.specs.Late as late
 use Rattle.starlark_visit.proofs.Taking.{takes_by}
 use Rattle.starlark_rules.specs.Levels.{own_rules}
-use Rattle.starlark_rules.specs.Sizes.{size}
+use Rattle.starlark_visit.specs.Sizes.{size}
 use Rattle.starlark_rules.proofs.Levels.{expr_level}
-use Rattle.starlark_rules.proofs.Smaller.{smaller_children}
+use Rattle.starlark_visit.proofs.Smaller.{smaller_children}
 use Rattle.starlark_rules.proofs.Visiting.{all_found, all_kept, ok_on}
 use Rattle.starlark_rules.proofs.expressions.+every+fn-every-lend_exprs.Goals as goal
 

@@ -1,6 +1,6 @@
 use Rattle.std.proofs.Common.{suc, ◌+◌}
 use Rattle.starlark_ast.specs.View.{expr_at}
-use Rattle.starlark_rules.specs.Sizes.{size}
+use Rattle.starlark_visit.specs.Sizes.{size}
 use Rattle.starlark_rules.proofs.expressions.+every+fn-every-lend_exprs.Given as goal
 
 abbrev pub decreases-every : goal.decreases-every

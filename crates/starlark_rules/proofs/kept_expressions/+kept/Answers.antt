@@ -7,8 +7,9 @@ use Rattle.starlark_rulebook.specs.Kept as kept
 use Rattle.starlark_rulebook.specs.Rules.{first_finding, listed}
 use Rattle.starlark_rulebook.specs.View.{finding_of}
 use Rattle.starlark_rules.proofs.Firsts.{argument_keeps, at_clause, at_front, at_member, first_listed, given, past, past_clause, past_member, stays}
-use Rattle.starlark_rules.specs.Sizes.{size, sizes, clause_sizes}
-use Rattle.starlark_rules.proofs.Within.{argument_size, clause_is_less, member_is_less, more_clauses}
+use Rattle.starlark_visit.specs.Sizes.{size, sizes, clause_sizes}
+use Rattle.starlark_rules.proofs.Within.{clause_is_less, member_is_less}
+use Rattle.starlark_visit.proofs.Members.{argument_size, more_clauses}
 use Rattle.starlark_rules.proofs.kept_expressions.+kept.Goals as goal
 
 -- ---- lists: less in each, and the first of all

@@ -3,7 +3,7 @@ use Rattle.starlark_ast.specs.View.{argument_at, boxed_expr, boxed_type, clause_
 use Rattle.starlark_ast.specs.Views.{clauses_of, items_of, pairs_of, targets_of}
 use Rattle.starlark_rulebook.specs.Kept as kept
 use Rattle.starlark_rulebook.specs.Rules.{first_finding}
-use Rattle.starlark_rules.specs.Sizes.{size, sizes, member_size, bound_size, annotation_size, clause_size, clause_sizes}
+use Rattle.starlark_visit.specs.Sizes.{size, sizes, member_size, bound_size, annotation_size, clause_size, clause_sizes}
 use Rattle.starlark_rules.proofs.kept_expressions.+kept.Given as goal
 
 abbrev pub decreases-expression_fault : goal.decreases-expression_fault

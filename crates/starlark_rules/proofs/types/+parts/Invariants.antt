@@ -3,7 +3,7 @@ use Rattle.starlark_ast.specs.View.{expr_at}
 use Rattle.starlark_ast.specs.Views.{items_of}
 use Rattle.starlark_rules.specs.Misfits.{forms_view}
 use Rattle.starlark_rulebook.specs.Types.{alone, argument, forms_of}
-use Rattle.starlark_rules.specs.Sizes.{size, sizes}
+use Rattle.starlark_visit.specs.Sizes.{size, sizes}
 use Rattle.starlark_rules.proofs.types.+parts.Given as goal
 
 abbrev pub decreases-type_parts : goal.decreases-type_parts

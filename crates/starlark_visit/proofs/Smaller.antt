@@ -25,15 +25,11 @@ use Rattle.starlark_ast.specs.declared.ast.LambdaP.{LambdaP}
 use Rattle.starlark_ast.specs.declared.ast.TypeExprP.{TypeExprP}
 use Rattle.starlark_ast.specs.declared.ast.ArgumentP.TheOpen as layer
 use Rattle.starlark_visit.proofs.Children.{target_places-Tuple, target_places-Index, target_places-Dot, target_places-Identifier}
-use Rattle.starlark_rules.proofs.Layers.{ExprLayer, layer_at, expr_by_layer}
-use Rattle.starlark_rules.specs.Sizes.{size, member_size, sizes, bound_size, annotation_size, clause_size, clause_sizes}
-use Rattle.starlark_rules.proofs.Within.{argument_size, behind, more_clauses, more_sizes}
+use Rattle.starlark_visit.proofs.Layers.{ExprLayer, layer_at, expr_by_layer}
+use Rattle.starlark_visit.specs.Sizes.{size, member_size, sizes, bound_size, annotation_size, clause_size, clause_sizes}
+use Rattle.starlark_visit.proofs.Members.{argument_size, behind, more_clauses, more_sizes}
+use Rattle.starlark_visit.proofs.Lifted.{singles}
 use Rattle.starlark_visit.proofs.Taking.{AllOf}
-
--- a list made of lists of one
-pub singles : {A : Type 0} (xs : List A) → flat_map (λ x. x ∷ []) xs ≡ xs
-singles [] = refl
-singles (x ∷ xs) = ap (λ ys. x ∷ ys) (singles xs)
 
 module _ {P L I A D T : Type 0} where
   -- each is smaller than n
