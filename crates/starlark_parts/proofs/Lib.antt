@@ -10,6 +10,7 @@ pub mod Bare
 pub mod JoinedTops
 pub mod OneOutline
 pub mod JoinedStatements
+pub mod SameLines
 pub mod Keeping
 pub mod Reading
 pub mod Spending

@@ -1,14 +1,15 @@
 //! Laws of the trees and the outlines of texts.
 
-ghost use Rattle.std.specs.Prelude.{List, ℕ, ◌≡◌};
+ghost use Rattle.std.specs.Prelude.{List, ℕ, ◌∷◌, ◌++◌, ◌+◌, ◌≡◌};
 ghost use Rattle.std.specs.List.{All};
+ghost use Rattle.starlark_place.specs.Place.{line_feeds};
 ghost use Rattle.starlark_lexer.specs.Joining.{IsClosed};
 ghost use Rattle.starlark_lexer.specs.declared.dialect.Dialect.{Dialect};
 ghost use Rattle.starlark_ast.specs.Tree.{Statement};
 ghost use Rattle.starlark_grammar.specs.Language.{Language};
 ghost use Rattle.starlark_parts.specs.Flat.{AreWorded, IsFlat};
 ghost use Rattle.starlark_parts.specs.Kept.{joined};
-ghost use Rattle.starlark_parts.specs.Outlines.{AreAllStatements, AreOutlines, AreTops, IsOutline, Placed};
+ghost use Rattle.starlark_parts.specs.Outlines.{AreAllStatements, AreOutlines, AreTops, IsOutline, Placed, items_down};
 ghost use Rattle.starlark_parts.specs.declared.word.OutlineItem.{OutlineItem};
 
 use starlark_grammar::text_laws::{nested_places, one_tree};
@@ -50,4 +51,12 @@ pub fn same_text_same_outline()
 {
     joined_outline();
     one_outline();
+}
+
+/// Where a text among others is replaced by one with as many line feeds, what the outline of the joined text has of all others
+/// stays, lines and columns too.
+pub fn same_lines()
+    ensures { (dialect : Dialect) (before after : List (List ℕ)) (a b : List ℕ) (xs ys vs zs : List OutlineItem) → All IsClosed before → IsClosed a → IsClosed b → All IsClosed after → line_feeds a ≡ line_feeds b → AreOutlines dialect 0 before xs → IsOutline dialect a ys → IsOutline dialect b vs → AreOutlines dialect (line_feeds (joined before) + line_feeds a) after zs → IsOutline dialect (joined (before ++ a ∷ after)) (xs ++ (items_down (line_feeds (joined before)) ys ++ zs)) × IsOutline dialect (joined (before ++ b ∷ after)) (xs ++ (items_down (line_feeds (joined before)) vs ++ zs)) }
+{
+    joined_outline();
 }
