@@ -6,7 +6,7 @@
 #![tactic(auto)]
 
 use starlark_lexer::dialect::Dialect;
-use starlark_script::{Watched, fault_line, run, status};
+use starlark_script::{Watched, exit_code, fault_line, run};
 use std::process::ExitCode;
 
 fn main(rt: HostRuntime) -> ExitCode {
@@ -16,5 +16,5 @@ fn main(rt: HostRuntime) -> ExitCode {
     if let Err(fault) = &end {
         let _ = eprintln!(rt; "{}", fault_line(fault));
     }
-    ExitCode::from(status(&end))
+    exit_code(&end)
 }
