@@ -55,8 +55,10 @@ pub trait Sink: Write {
         ensures stalls { StallsWith (stalls self.old) (stalls self.new) result (length buf.now) };
 }
 
-/// A reader or a writer that is watched: each call is passed on once, and answers what it answers. The first `Err` is
-/// kept in mind for good, and nothing else sets it.
+/// A reader or a writer that is watched: each call of `read`, `write`, `flush`, `pull` and `put` is passed on once, and
+/// answers what it answers. The first `Err` of one is kept in mind for good, and nothing else sets it; all but `flush` are
+/// counted. The other calls of std's traits are made of these, so an `Err` of their own making is not kept in mind: that of
+/// `read_exact` at the reader's end, that of `write_all` where a write takes no byte.
 #[derive(Drop)]
 pub struct Watched<T> {
     inner: T,
