@@ -103,6 +103,10 @@ fn refused(rt: &impl Abort, alloc: Global, parts: &mut Parts) -> Result<(), Fail
         assert_eq!(rt; fault.to_string(alloc)?.as_str(), *wanted);
         assert_eq!(rt; parts.text()?.as_str(), "x = 1\n");
     }
+    assert_eq!(rt;
+        PartFault::Memory.to_string(alloc)?.as_str(),
+        "out of memory"
+    );
     assert!(rt; matches!(parts.replace(1, b"y\n"), Err(PartFault::Index)));
     assert!(rt; matches!(parts.replace(0, b"y = [1, 2]\n"), Err(PartFault::Long)));
     assert!(rt; matches!(parts.remove(1), Err(PartFault::Index)));
