@@ -88,7 +88,8 @@ pub(crate) fn run_bad<W: Write>(writer: &mut W) -> Result<End, RunFault> {
 /// - `Err(RunFault::Write)`: a write failed, or took 0 bytes of some.
 /// - `Err(RunFault::Memory)`: there was no memory for the buffer or a line.
 ///
-/// It holds one text and its answer at a time. Want of memory for them ends nothing: the answer is `refused memory`.
+/// It holds one text, in a few copies, and its answer at a time. Want of memory for them ends nothing: the answer is
+/// `refused memory`.
 pub(crate) fn run<R: Read + Drop, W: Write>(
     alloc: Global,
     reader: R,
