@@ -14,7 +14,7 @@ use std::str::from_utf8_unchecked;
 
 /// Keeps the tree of a text in `kept`, until another one is kept there or it is let go. Where the text is not in the
 /// language of the dialect none is kept there. The tree that was kept there before goes. Where the text has more than
-/// `u32::MAX` bytes or memory runs out it answers `false`, and `kept` stays.
+/// `u32::MAX` bytes or memory runs out it answers `false`, and `kept` stays. The text is UTF-8.
 #[unsafe(no_mangle)]
 pub extern "C" fn starlark_c_parser_keep(
     alloc: Global,

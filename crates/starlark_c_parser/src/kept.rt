@@ -13,7 +13,7 @@ use std::mem::ManuallyDrop;
 use std::ptr::null_mut;
 
 /// An owner of a module, or of none where its pointer is null. What the pointer leads to is not for C to read, so it
-/// points to bytes.
+/// points to bytes. C begins with null there, copies no owner that it still uses, and lets each go once.
 #[repr(C)]
 pub struct Kept {
     at: *mut u8,

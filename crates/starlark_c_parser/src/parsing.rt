@@ -14,7 +14,8 @@ use std::alloc::Global;
 use std::str::from_utf8_unchecked;
 
 /// Puts into `taken` whether a text is in the language of a dialect. The tree that it has goes at once. Where the text
-/// has more than `u32::MAX` bytes or memory runs out it answers `false`, and `taken` stays.
+/// has more than `u32::MAX` bytes or memory runs out it answers `false`, and `taken` stays. `taken` holds a 0 or a 1
+/// before the call, too, and the text is UTF-8.
 #[unsafe(no_mangle)]
 pub extern "C" fn starlark_c_parser_parse(
     alloc: Global,
