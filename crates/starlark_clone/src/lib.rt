@@ -13,5 +13,6 @@ mod kept_statements;
 pub mod laws;
 mod make;
 mod make_statements;
+mod placed;
 mod rename;
 pub mod renaming;

@@ -1,7 +1,7 @@
 //! Clones show the same as what they are of, places and texts among it.
 
-use crate::common::{parsed, same};
-use starlark_ast::ast::{ExprP, StmtP};
+use crate::common::{parsed, prints, same, span};
+use starlark_ast::ast::{AstStmt, ExprP, StmtP};
 use starlark_clone::clone_tree::CloneTree;
 use std::alloc::AllocError;
 use std::test::Fail;
@@ -17,6 +17,10 @@ fn clones_of_expressions(rt: HostRuntime) -> Result<(), Fail> {
         "{a: b for c in d}",
         "f\"x{a}y{b}\"",
         "lambda a, b = 1, *args, c, **kwargs: lambda *, d: a",
+        "a()",
+        "[]",
+        "{}",
+        "lambda: a",
     ] {
         let module = parsed(alloc, text)?;
         let StmtP::Expression(x) = &module.statement().node else {
@@ -69,6 +73,8 @@ fn clones_of_statements(rt: HostRuntime) -> Result<(), Fail> {
         "def f(a, /, b: int = 1, *c, d: str, **e) -> None:\n  if a:\n    return\n  elif b:\n    pass\n  return c\n",
         "for i, j[0] in k:\n  if i:\n    break\n  else:\n    continue\n",
         "f\"x{a}y{b}\"\n",
+        "def a(): pass",
+        "",
     ] {
         let module = parsed(alloc, text)?;
         let tree = &module.statement().node;
@@ -94,6 +100,41 @@ fn clones_of_statements(rt: HostRuntime) -> Result<(), Fail> {
         return Err(Fail::from(AllocError));
     };
     same(&rt, alloc, &ty.node.clone(alloc)?, &ty.node)?;
+    Ok(())
+}
+
+#[test]
+fn clones_at_places(rt: HostRuntime) -> Result<(), Fail> {
+    let alloc = rt.alloc();
+    let module = parsed(alloc, "a\nb")?;
+    let tree = module.statement();
+    let again: AstStmt = tree.clone(alloc)?;
+    assert_eq!(rt; again.span, span(0, 3));
+    prints(&rt, alloc, &again.node, "a\nb\n")?;
+    same(&rt, alloc, &again, tree)?;
+    Ok(())
+}
+
+#[test]
+fn clones_of_names_at_places(rt: HostRuntime) -> Result<(), Fail> {
+    let alloc = rt.alloc();
+    let module = parsed(alloc, "def f(): return a.b")?;
+    let StmtP::Def(def) = &module.statement().node else {
+        return Err(Fail::from(AllocError));
+    };
+    same(&rt, alloc, &def.name.clone(alloc)?, &def.name)?;
+    let StmtP::Return(Some(x)) = &def.body.node else {
+        return Err(Fail::from(AllocError));
+    };
+    same(&rt, alloc, &x.clone(alloc)?, x)?;
+    let ExprP::Dot(object, name) = &x.node else {
+        return Err(Fail::from(AllocError));
+    };
+    same(&rt, alloc, &name.clone(alloc)?, name)?;
+    let ExprP::Identifier(read) = &object.node else {
+        return Err(Fail::from(AllocError));
+    };
+    same(&rt, alloc, &read.clone(alloc)?, read)?;
     Ok(())
 }
 
