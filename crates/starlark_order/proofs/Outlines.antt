@@ -16,6 +16,7 @@ use Rattle.starlark_parts.specs.Outlines.{beginning, IsOutline}
 use Rattle.starlark_parts.specs.declared.word.OutlineItem.{OutlineItem}
 use Rattle.starlark_order.specs.Ordered.{is_layout, is_inner, HaveBytes, BeginPlainly, BeforeAll, AreOrdered}
 use Rattle.starlark_order.proofs.Tokens.{Laid, no_tokens, and_token}
+use Rattle.starlark_order.proofs.Staying.{StandInOrder, AllHaveBytes}
 use Rattle.starlark_order.proofs.Statements.{Rising, and_more, ordered, derived_rising}
 
 -- ---- the tokens of a text
@@ -65,12 +66,6 @@ all_ordered before text (x ∷ xs) (s ∷ ss) q (and_more u a r) =
     let here : x.begin ≡ resolved text (statement_place s).begin = cc in
     let rest : map (λ x. x.begin) xs ≡ map (beginning text) ss = cc in
     (before_all before text (statement_place s).begin x.begin xs ss (omega arith) a here rest r, all_ordered before text xs ss rest r)
-
-abbrev pub StandInOrder : Type 0
-StandInOrder = (text : List ℕ) (l : Lexed) → Lex start text l → InOrder 0 (length text) l.items l.fault
-
-abbrev pub AllHaveBytes : Type 0
-AllHaveBytes = (text : List ℕ) (l : Lexed) → Lex start text l → HaveBytes l.items
 
 abbrev pub AllBeginPlainly : Type 0
 AllBeginPlainly = (text : List ℕ) (l : Lexed) → Lex start text l → BeginPlainly text l.items
