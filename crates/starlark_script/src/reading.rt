@@ -156,18 +156,15 @@ fn take_text<R: Source>(
 {
     let mut text = Vec::new(alloc);
     for i in 0..count {
-        match ahead.next(reader)? {
-            None => return Ok(Taken::Short),
-            Some(b) => match text.push(b) {
-                Ok(()) => {}
-                Err(_) => {
-                    let whole = skip(ahead, reader, count - i - 1)?;
-                    if whole {
-                        return Ok(Taken::Wanting);
-                    }
-                    return Ok(Taken::Short);
-                }
-            },
+        let Some(b) = ahead.next(reader)? else {
+            return Ok(Taken::Short);
+        };
+        if text.push(b).is_err() {
+            let whole = skip(ahead, reader, count - i - 1)?;
+            if whole {
+                return Ok(Taken::Wanting);
+            }
+            return Ok(Taken::Short);
         }
     }
     Ok(Taken::Text(text))
