@@ -41,6 +41,15 @@ fn triple(alloc: Global) -> Result<Expr, AllocError> {
     Ok(ExprP::Tuple(members))
 }
 
+/// How many members a tuple has room for.
+fn room(x: &Expr) -> usize {
+    if let ExprP::Tuple(members) = x {
+        members.capacity()
+    } else {
+        0
+    }
+}
+
 /// `(a, b[c])`
 fn target(alloc: Global) -> Result<AssignTarget, AllocError> {
     let ident = String::from_str(alloc, "a")?;
@@ -81,6 +90,19 @@ fn stops(rt: HostRuntime) -> Result<(), Fail> {
     assert_eq!(rt; answer, Err(2));
     assert_eq!(rt; calls, 2);
     prints(&rt, alloc, &triple, "(..., ..., c)")?;
+    Ok(())
+}
+
+#[test]
+fn keeps_room(rt: HostRuntime) -> Result<(), Fail> {
+    let alloc = rt.alloc();
+    let mut triple = triple(alloc)?;
+    let before = room(&triple);
+    triple.visit_expr_mut(&mut |x: &mut AstExpr| {
+        x.node = ExprP::Literal(AstLiteral::Ellipsis);
+    });
+    assert_eq!(rt; room(&triple), before);
+    prints(&rt, alloc, &triple, "(..., ..., ...)")?;
     Ok(())
 }
 
