@@ -17,7 +17,7 @@ use Rattle.starlark_ast.specs.declared.ast.StmtP.TheVariants as stmt
 use Rattle.starlark_visit.proofs.Below.{HoldsNone, inner-Statements, inner-If, inner-IfElse, inner-For, inner-Def}
 use Rattle.starlark_ast.proofs.Tops.{count, count_def, count_for, count_step}
 use Rattle.starlark_write.specs.Beside as parts
-use Rattle.starlark_write.specs.Beside.{AtPlace, KeepsMaybeType}
+use Rattle.starlark_write.specs.Beside.{AtPlace, KeepsMaybeType, SameBox}
 use Rattle.starlark_write.specs.BesideStatements as beside
 use Rattle.starlark_write.specs.BesideStatements.{KeepsDefHead, KeepsForHead, KeepsHead, KeepsOuter, KeepsOuters, KeepsStmt, KeepsTypeHere, def_body, for_body}
 use Rattle.starlark_write.proofs.Lent.{both}
@@ -31,7 +31,7 @@ module _ {P L I A D T : Type 0} where
 
   pub maybe_type_same : (x : Option (Box (Spanned (TypeExprP P L I A D T)) Global)) → KeepsMaybeType x x
   maybe_type_same None = parts.untyped
-  maybe_type_same (Some x) = parts.typed x x (record { span = refl; node = record { payload = refl } })
+  maybe_type_same (Some x) = parts.typed x x refl (record { span = refl; node = record { payload = refl } })
 
   -- what is written right below leaves the statements right below
   pub stmts_kept : {x y : StmtP P L I A D T} → KeepsStmt x y → stmts_below y ≡ stmts_below x
@@ -39,7 +39,7 @@ module _ {P L I A D T : Type 0} where
   stmts_kept (beside.returned x y k) = ap stmts_layer (stmt.outs-Return y) ∙ sym (ap stmts_layer (stmt.outs-Return x))
   stmts_kept (beside.expression x y) = ap stmts_layer (stmt.outs-Expression y) ∙ sym (ap stmts_layer (stmt.outs-Expression x))
   stmts_kept (beside.assign x y k) = ap stmts_layer (stmt.outs-Assign y) ∙ sym (ap stmts_layer (stmt.outs-Assign x))
-  stmts_kept (beside.assign_modify x y op v w k) = ap stmts_layer (stmt.outs-AssignModify y op w) ∙ sym (ap stmts_layer (stmt.outs-AssignModify x op v))
+  stmts_kept (beside.assign_modify x y op v w b k) = ap stmts_layer (stmt.outs-AssignModify y op w) ∙ sym (ap stmts_layer (stmt.outs-AssignModify x op v))
   stmts_kept (beside.condition c d s) = ap stmts_layer (stmt.outs-If d s) ∙ sym (ap stmts_layer (stmt.outs-If c s))
   stmts_kept (beside.choice c d s) = ap stmts_layer (stmt.outs-IfElse d s) ∙ sym (ap stmts_layer (stmt.outs-IfElse c s))
   stmts_kept (beside.repeat x y k) = ap stmts_layer (stmt.outs-For y) ∙ ap (λ b. b.value ∷ []) k.body ∙ sym (ap stmts_layer (stmt.outs-For x))
@@ -48,9 +48,9 @@ module _ {P L I A D T : Type 0} where
   -- and the other way round
   pub exprs_kept : {x y : StmtP P L I A D T} → KeepsHead x y → exprs_below y ≡ exprs_below x
   exprs_kept (beside.head_same x) = refl
-  exprs_kept (beside.head_statements xs ys k) = ap exprs_layer (stmt.outs-Statements ys) ∙ sym (ap exprs_layer (stmt.outs-Statements xs))
-  exprs_kept (beside.head_condition c s t) = ap exprs_layer (stmt.outs-If c t) ∙ sym (ap exprs_layer (stmt.outs-If c s))
-  exprs_kept (beside.head_choice c s t) = ap exprs_layer (stmt.outs-IfElse c t) ∙ sym (ap exprs_layer (stmt.outs-IfElse c s))
+  exprs_kept (beside.head_statements xs ys b k) = ap exprs_layer (stmt.outs-Statements ys) ∙ sym (ap exprs_layer (stmt.outs-Statements xs))
+  exprs_kept (beside.head_condition c s t b) = ap exprs_layer (stmt.outs-If c t) ∙ sym (ap exprs_layer (stmt.outs-If c s))
+  exprs_kept (beside.head_choice c s t b) = ap exprs_layer (stmt.outs-IfElse c t) ∙ sym (ap exprs_layer (stmt.outs-IfElse c s))
   exprs_kept (beside.head_repeat x y k) = ap exprs_layer (stmt.outs-For y) ∙ both (λ p q. target_places p.node ++ q ∷ []) k.var k.over ∙ sym (ap exprs_layer (stmt.outs-For x))
   exprs_kept (beside.head_define x y k) = ap exprs_layer (stmt.outs-Def y) ∙ both (λ p q. flat_map (λ r. parameter_places r.node) p.items ++ maybe_type_place q) k.params k.return_type ∙ sym (ap exprs_layer (stmt.outs-Def x))
 
@@ -119,7 +119,7 @@ module _ {P L I A D T : Type 0} where
   count_kept (beside.returned x y k) = (ap count (sym (stmt.rolls-Return y)) ∙ fold-roll-StmtP P L I A D T _ _ _ count_step count_def count_for (layer.Return y)) ∙ sym (ap count (sym (stmt.rolls-Return x)) ∙ fold-roll-StmtP P L I A D T _ _ _ count_step count_def count_for (layer.Return x))
   count_kept (beside.expression x y) = (ap count (sym (stmt.rolls-Expression y)) ∙ fold-roll-StmtP P L I A D T _ _ _ count_step count_def count_for (layer.Expression y)) ∙ sym (ap count (sym (stmt.rolls-Expression x)) ∙ fold-roll-StmtP P L I A D T _ _ _ count_step count_def count_for (layer.Expression x))
   count_kept (beside.assign x y k) = (ap count (sym (stmt.rolls-Assign y)) ∙ fold-roll-StmtP P L I A D T _ _ _ count_step count_def count_for (layer.Assign y)) ∙ sym (ap count (sym (stmt.rolls-Assign x)) ∙ fold-roll-StmtP P L I A D T _ _ _ count_step count_def count_for (layer.Assign x))
-  count_kept (beside.assign_modify x y op v w k) = (ap count (sym (stmt.rolls-AssignModify y op w)) ∙ fold-roll-StmtP P L I A D T _ _ _ count_step count_def count_for (layer.AssignModify y op w)) ∙ sym (ap count (sym (stmt.rolls-AssignModify x op v)) ∙ fold-roll-StmtP P L I A D T _ _ _ count_step count_def count_for (layer.AssignModify x op v))
+  count_kept (beside.assign_modify x y op v w b k) = (ap count (sym (stmt.rolls-AssignModify y op w)) ∙ fold-roll-StmtP P L I A D T _ _ _ count_step count_def count_for (layer.AssignModify y op w)) ∙ sym (ap count (sym (stmt.rolls-AssignModify x op v)) ∙ fold-roll-StmtP P L I A D T _ _ _ count_step count_def count_for (layer.AssignModify x op v))
   count_kept (beside.condition c d s) = count-If d s ∙ sym (count-If c s)
   count_kept (beside.choice c d s) = count-IfElse d s ∙ sym (count-IfElse c s)
   count_kept (beside.repeat x y k) = count-For y ∙ ap (λ b. count b.value.node + 1) k.body ∙ sym (count-For x)
@@ -132,11 +132,11 @@ module _ {P L I A D T : Type 0} where
   abbrev pub with_def_body : DefP P L I A D T → Box (S P L I A D T) Global → DefP P L I A D T
   with_def_body x b = let d = out-DefP P L I A D T x in roll-DefP P L I A D T (record { name = d.name; params = d.params; return_type = d.return_type; body = b; payload = d.payload })
 
-  pub for_head_kept : (x : ForP P L I A D T) (b : Box (S P L I A D T) Global) → KeepsForHead x (with_for_body x b)
-  for_head_kept x b = record { var = refl; over = refl }
+  pub for_head_kept : (x : ForP P L I A D T) (b : Box (S P L I A D T) Global) → SameBox (out-ForP P L I A D T x).body b → KeepsForHead x (with_for_body x b)
+  for_head_kept x b h = record { var = refl; over = refl; body_block = h }
 
-  pub def_head_kept : (x : DefP P L I A D T) (b : Box (S P L I A D T) Global) → KeepsDefHead x (with_def_body x b)
-  def_head_kept x b = record { name = refl; params = refl; return_type = refl; payload = refl }
+  pub def_head_kept : (x : DefP P L I A D T) (b : Box (S P L I A D T) Global) → SameBox (out-DefP P L I A D T x).body b → KeepsDefHead x (with_def_body x b)
+  def_head_kept x b h = record { name = refl; params = refl; return_type = refl; body_block = h; payload = refl }
 
   pub for_body_is : (x : ForP P L I A D T) (b : Box (S P L I A D T) Global) → for_body (with_for_body x b) ≡ b.value
   for_body_is x b = refl

@@ -2,8 +2,10 @@
 use Rattle.std.proofs.Common.{◌≡◌, refl, sym, ap, ◌∙◌, ℕ, ◌+◌, ◌<◌, ◌≤◌, List, ◌++◌, flat_map, length, drop, get_or, Option, Some, None, arith}
 use Rattle.std.proofs.lemmas.List.Sums.{get_or-le-sum_by, sum_by-cons}
 use Rattle.std.specs.List.{sum_by}
+use Rattle.std.specs.Vec.{SameBlock}
 use Rattle.std.specs.declared.alloc.Global.{Global}
 use Rattle.std.specs.declared.boxed.Box.{Box}
+use Rattle.std.specs.declared.vec.Vec.{Vec}
 use Rattle.starlark_place.specs.declared.pos.Spanned.{Spanned}
 use Rattle.starlark_ast.specs.Access.{argument_expr, argument_expr_layer}
 use Rattle.starlark_ast.specs.Places.{E}
@@ -31,6 +33,10 @@ use Rattle.starlark_write.proofs.Loops as loops
 use Rattle.starlark_write.proofs.Loops.{Both, head_same}
 use Rattle.starlark_write.proofs.TypeParts.{argument_types-Args, argument_types-KwArgs, argument_types-Named, argument_types-Positional, default_types-Args, default_types-KwArgs, default_types-Normal}
 use Rattle.starlark_write.proofs.TypelessNodes.{argument_nodes, argument_nodes-Args, argument_nodes-KwArgs, argument_nodes-Named, argument_nodes-Positional, default_nodes, default_nodes-Args, default_nodes-KwArgs, default_nodes-Normal, expr_nodes}
+
+-- a vector that is written to twice
+pub blocks_then : {X : Type 0} (xs ys zs : Vec X Global) → SameBlock xs ys → SameBlock ys zs → SameBlock xs zs
+blocks_then xs ys zs h k = (k.0 ∙ h.0, (k.1.0 ∙ h.1.0, k.1.1 ∙ h.1.1))
 
 -- one of a list counts no more than all, also where those before it were written
 pub fewer : {X : Type 0} (h : X → ℕ) (old xs : List X) (i : ℕ) (x : X) → i < length xs → length xs ≡ length old → drop i xs ≡ drop i old → h (get_or xs i x) ≤ sum_by h old
@@ -83,7 +89,7 @@ module _ {P L I A D T : Type 0} where
 
   pub maybe_same : (x : Option (Box (E P L I A D T) Global)) → KeepsMaybe x x
   maybe_same None = kept.absent
-  maybe_same (Some x) = kept.present x x (kept.same x.value)
+  maybe_same (Some x) = kept.present x x refl (kept.same x.value)
 
   -- an argument has the types of its expression
   layer_types : (l : ArgumentP-F P L I A D T (ArgumentP P L I A D T) (AssignTargetP P L I A D T) (ClauseP P L I A D T) (ExprP P L I A D T) (ParameterP P L I A D T) (CallArgsP P L I A D T) (FStringP P L I A D T) (ForClauseP P L I A D T) (LambdaP P L I A D T) (TypeExprP P L I A D T)) → (argument_types (roll-ArgumentP P L I A D T l) ≡ expr_types (argument_expr_layer l).node) × (argument_nodes (roll-ArgumentP P L I A D T l) ≡ expr_nodes (argument_expr_layer l).node)

@@ -7,6 +7,7 @@ use Rattle.std.proofs.Common.{ℕ, ◌+◌, ◌<◌, ◌≤◌, ◌≡◌, refl,
 use Rattle.std.specs.Borrow.{MutBor}
 use Rattle.std.specs.Fn.{Called, Mut}
 use Rattle.std.specs.List.{sum_by}
+use Rattle.std.specs.Vec.{SameBlock}
 use Rattle.std.specs.declared.alloc.Global.{Global}
 use Rattle.std.specs.declared.vec.Vec.{Vec}
 use Rattle.starlark_place.specs.Place.{Extent}
@@ -77,12 +78,12 @@ module _ {P L I A D T F : Type 0} (g : Mut F (MutBor (S P L I A D T) × Unit {0}
       subst (λ q. WritesEachTop g f old last q) (sym (take_back xs rest n all)) h
 
   -- those of a list
-  pub tops_list : (s : Extent) (xs zs : Vec (S P L I A D T) Global) {f last : F} → WritesEachTop g f xs.items last zs.items → WritesTops g f (record { span = s; node = variant.Statements xs }) last (record { span = s; node = variant.Statements zs })
-  tops_list s xs zs {f} {last} h =
+  pub tops_list : (s : Extent) (xs zs : Vec (S P L I A D T) Global) {f last : F} → SameBlock xs zs → WritesEachTop g f xs.items last zs.items → WritesTops g f (record { span = s; node = variant.Statements xs }) last (record { span = s; node = variant.Statements zs })
+  tops_list s xs zs {f} {last} b h =
       record {
         left = h.left;
         calls = record { told = subst (λ q. WritesAll g f q last h.left) (sym (top_level-Statements (record { span = s; node = variant.Statements xs }) xs refl)) h.calls.told };
-        becomes = tops.list s xs zs h.left h.becomes;
+        becomes = tops.list s xs zs h.left b h.becomes;
       }
 
   -- one that is no list

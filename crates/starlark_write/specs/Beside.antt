@@ -1,5 +1,7 @@
--- What stays of a node when the places that a visitor lends are written: its variant, and each name, operator, payload and span in it. In each relation the second node is what becomes of the first.
+-- What stays of a node when the places that a visitor lends are written: its variant, each name, operator, payload and span in it, and where its lists and boxes lie in memory. In each relation the second node is what becomes of the first.
 use Rattle.std.specs.Prelude.{◌≡◌, Bool, true, false, List, [], ◌∷◌, ◌++◌, map, flat_map, length, Option, Some, None}
+use denote.RawPtr.{Ptr}
+use Rattle.std.specs.Vec.{SameBlock}
 use Rattle.std.specs.declared.alloc.Global.{Global}
 use Rattle.std.specs.declared.boxed.Box.{Box}
 use Rattle.std.specs.declared.string.String.{String}
@@ -38,6 +40,15 @@ pub record AtPlace {X : Type 0} (R : X → X → Type 0) (x y : Spanned X) : Typ
   pub span : y.span ≡ x.span
   pub node : R x.node y.node
 
+-- a box stays where it is in memory; of a vector `SameBlock` says so
+abbrev pub SameBox : {X : Type 0} → Box X Global → Box X Global → Type 0
+SameBox old new = new.ptr ≡ old.ptr
+
+-- where a box is, if there is one
+abbrev pub block_of : {X : Type 0} → Option (Box X Global) → Option Ptr
+block_of None = None
+block_of (Some x) = Some x.ptr
+
 -- whether there is one
 abbrev pub stands : {X : Type 0} → Option X → Bool
 stands None = false
@@ -61,7 +72,7 @@ module _ {P L I A D T : Type 0} where
 
   pub data KeepsMaybeType : Option (Box (Spanned (TypeExprP P L I A D T)) Global) → Option (Box (Spanned (TypeExprP P L I A D T)) Global) → Type 0 where
     untyped : KeepsMaybeType None None
-    typed : (x y : Box (Spanned (TypeExprP P L I A D T)) Global) → AtPlace KeepsType x.value y.value → KeepsMaybeType (Some x) (Some y)
+    typed : (x y : Box (Spanned (TypeExprP P L I A D T)) Global) → SameBox x y → AtPlace KeepsType x.value y.value → KeepsMaybeType (Some x) (Some y)
 
   -- of an argument its kind and its name
   pub data KeepsArgument : ArgumentP P L I A D T → ArgumentP P L I A D T → Type 0 where
@@ -71,12 +82,13 @@ module _ {P L I A D T : Type 0} where
     kwargs : (x y : E P L I A D T) → KeepsArgument (argument.KwArgs x) (argument.KwArgs y)
 
   pub record KeepsArgs (x y : CallArgsP P L I A D T) : Type 0 where
+    pub block : SameBlock (out-CallArgsP P L I A D T x).args (out-CallArgsP P L I A D T y).args
     pub args : Each (AtPlace KeepsArgument) (out-CallArgsP P L I A D T x).args.items (out-CallArgsP P L I A D T y).args.items
 
-  -- of a parameter its kind, its name, what its type keeps, and whether it has a default
+  -- of a parameter its kind, its name, what its type keeps, and whether it has a default, and where
   pub data KeepsParameter : ParameterP P L I A D T → ParameterP P L I A D T → Type 0 where
     slash : KeepsParameter parameter.Slash parameter.Slash
-    normal : (name : Spanned (AssignIdentP P L I A D T)) (a b : Option (Box (Spanned (TypeExprP P L I A D T)) Global)) (x y : Option (Box (E P L I A D T) Global)) → KeepsMaybeType a b → stands y ≡ stands x → KeepsParameter (parameter.Normal name a x) (parameter.Normal name b y)
+    normal : (name : Spanned (AssignIdentP P L I A D T)) (a b : Option (Box (Spanned (TypeExprP P L I A D T)) Global)) (x y : Option (Box (E P L I A D T) Global)) → KeepsMaybeType a b → block_of y ≡ block_of x → KeepsParameter (parameter.Normal name a x) (parameter.Normal name b y)
     no_args : KeepsParameter parameter.NoArgs parameter.NoArgs
     args_parameter : (name : Spanned (AssignIdentP P L I A D T)) (a b : Option (Box (Spanned (TypeExprP P L I A D T)) Global)) → KeepsMaybeType a b → KeepsParameter (parameter.Args name a) (parameter.Args name b)
     kwargs_parameter : (name : Spanned (AssignIdentP P L I A D T)) (a b : Option (Box (Spanned (TypeExprP P L I A D T)) Global)) → KeepsMaybeType a b → KeepsParameter (parameter.KwArgs name a) (parameter.KwArgs name b)
@@ -84,9 +96,9 @@ module _ {P L I A D T : Type 0} where
   -- of a target all but the expressions in its Dot and Index members
   mutual
     pub data KeepsTarget : AssignTargetP P L I A D T → AssignTargetP P L I A D T → Type 0 where
-      target_tuple : (xs ys : Vec (Spanned (AssignTargetP P L I A D T)) Global) → KeepsTargets xs.items ys.items → KeepsTarget (target.Tuple xs) (target.Tuple ys)
-      target_index : (x y : Box (E P L I A D T × E P L I A D T) Global) → KeepsTarget (target.Index x) (target.Index y)
-      target_dot : (x y : Box (E P L I A D T) Global) (name : Spanned (String Global)) → KeepsTarget (target.Dot x name) (target.Dot y name)
+      target_tuple : (xs ys : Vec (Spanned (AssignTargetP P L I A D T)) Global) → SameBlock xs ys → KeepsTargets xs.items ys.items → KeepsTarget (target.Tuple xs) (target.Tuple ys)
+      target_index : (x y : Box (E P L I A D T × E P L I A D T) Global) → SameBox x y → KeepsTarget (target.Index x) (target.Index y)
+      target_dot : (x y : Box (E P L I A D T) Global) (name : Spanned (String Global)) → SameBox x y → KeepsTarget (target.Dot x name) (target.Dot y name)
       target_identifier : (x : Spanned (AssignIdentP P L I A D T)) → KeepsTarget (target.Identifier x) (target.Identifier x)
 
     pub data KeepsTargets : List (Spanned (AssignTargetP P L I A D T)) → List (Spanned (AssignTargetP P L I A D T)) → Type 0 where
@@ -96,7 +108,7 @@ module _ {P L I A D T : Type 0} where
   -- of a target all but the identifiers that it assigns
   mutual
     pub data KeepsPlaces : AssignTargetP P L I A D T → AssignTargetP P L I A D T → Type 0 where
-      places_tuple : (xs ys : Vec (Spanned (AssignTargetP P L I A D T)) Global) → KeepsAllPlaces xs.items ys.items → KeepsPlaces (target.Tuple xs) (target.Tuple ys)
+      places_tuple : (xs ys : Vec (Spanned (AssignTargetP P L I A D T)) Global) → SameBlock xs ys → KeepsAllPlaces xs.items ys.items → KeepsPlaces (target.Tuple xs) (target.Tuple ys)
       places_index : (x : Box (E P L I A D T × E P L I A D T) Global) → KeepsPlaces (target.Index x) (target.Index x)
       places_dot : (x : Box (E P L I A D T) Global) (name : Spanned (String Global)) → KeepsPlaces (target.Dot x name) (target.Dot x name)
       places_identifier : (x y : Spanned (AssignIdentP P L I A D T)) → KeepsPlaces (target.Identifier x) (target.Identifier y)
@@ -115,32 +127,35 @@ module _ {P L I A D T : Type 0} where
 
   -- of a lambda its payload, and what its parameters keep
   pub record KeepsLambda (x y : LambdaP P L I A D T) : Type 0 where
+    pub params_block : SameBlock (out-LambdaP P L I A D T x).params (out-LambdaP P L I A D T y).params
     pub params : Each (AtPlace KeepsParameter) (out-LambdaP P L I A D T x).params.items (out-LambdaP P L I A D T y).params.items
+    pub body_block : SameBox (out-LambdaP P L I A D T x).body (out-LambdaP P L I A D T y).body
     pub payload : (out-LambdaP P L I A D T y).payload ≡ (out-LambdaP P L I A D T x).payload
 
   -- of an f-string its format, and the number of its expressions
   pub record KeepsFString (x y : FStringP P L I A D T) : Type 0 where
     pub format : (out-FStringP P L I A D T y).format ≡ (out-FStringP P L I A D T x).format
+    pub block : SameBlock (out-FStringP P L I A D T x).expressions (out-FStringP P L I A D T y).expressions
     pub expressions : length (out-FStringP P L I A D T y).expressions.items ≡ length (out-FStringP P L I A D T x).expressions.items
 
   -- of an expression all but the expressions right below it
   pub data KeepsExpr : ExprP P L I A D T → ExprP P L I A D T → Type 0 where
     same : (x : ExprP P L I A D T) → KeepsExpr x x
-    tuple : (xs ys : Vec (E P L I A D T) Global) → length ys.items ≡ length xs.items → KeepsExpr (expr.Tuple xs) (expr.Tuple ys)
-    dot : (x y : Box (E P L I A D T) Global) (name : Spanned (String Global)) → KeepsExpr (expr.Dot x name) (expr.Dot y name)
-    call : (x y : Box (E P L I A D T) Global) (a b : CallArgsP P L I A D T) → KeepsArgs a b → KeepsExpr (expr.Call x a) (expr.Call y b)
-    index : (x y : Box (E P L I A D T × E P L I A D T) Global) → KeepsExpr (expr.Index x) (expr.Index y)
-    index2 : (x y : Box (E P L I A D T × E P L I A D T × E P L I A D T) Global) → KeepsExpr (expr.Index2 x) (expr.Index2 y)
-    slice : (x y : Box (E P L I A D T) Global) (a b c d e f : Option (Box (E P L I A D T) Global)) → stands d ≡ stands a → stands e ≡ stands b → stands f ≡ stands c → KeepsExpr (expr.Slice x a b c) (expr.Slice y d e f)
+    tuple : (xs ys : Vec (E P L I A D T) Global) → SameBlock xs ys → length ys.items ≡ length xs.items → KeepsExpr (expr.Tuple xs) (expr.Tuple ys)
+    dot : (x y : Box (E P L I A D T) Global) (name : Spanned (String Global)) → SameBox x y → KeepsExpr (expr.Dot x name) (expr.Dot y name)
+    call : (x y : Box (E P L I A D T) Global) (a b : CallArgsP P L I A D T) → SameBox x y → KeepsArgs a b → KeepsExpr (expr.Call x a) (expr.Call y b)
+    index : (x y : Box (E P L I A D T × E P L I A D T) Global) → SameBox x y → KeepsExpr (expr.Index x) (expr.Index y)
+    index2 : (x y : Box (E P L I A D T × E P L I A D T × E P L I A D T) Global) → SameBox x y → KeepsExpr (expr.Index2 x) (expr.Index2 y)
+    slice : (x y : Box (E P L I A D T) Global) (a b c d e f : Option (Box (E P L I A D T) Global)) → SameBox x y → block_of d ≡ block_of a → block_of e ≡ block_of b → block_of f ≡ block_of c → KeepsExpr (expr.Slice x a b c) (expr.Slice y d e f)
     lambda : (x y : LambdaP P L I A D T) → KeepsLambda x y → KeepsExpr (expr.Lambda x) (expr.Lambda y)
-    not : (x y : Box (E P L I A D T) Global) → KeepsExpr (expr.Not x) (expr.Not y)
-    minus : (x y : Box (E P L I A D T) Global) → KeepsExpr (expr.Minus x) (expr.Minus y)
-    plus : (x y : Box (E P L I A D T) Global) → KeepsExpr (expr.Plus x) (expr.Plus y)
-    bit_not : (x y : Box (E P L I A D T) Global) → KeepsExpr (expr.BitNot x) (expr.BitNot y)
-    op : (x y : Box (E P L I A D T) Global) (o : BinOp) (v w : Box (E P L I A D T) Global) → KeepsExpr (expr.Op x o v) (expr.Op y o w)
-    choice : (x y : Box (E P L I A D T × E P L I A D T × E P L I A D T) Global) → KeepsExpr (expr.If x) (expr.If y)
-    list : (xs ys : Vec (E P L I A D T) Global) → length ys.items ≡ length xs.items → KeepsExpr (expr.List xs) (expr.List ys)
-    dict : (xs ys : Vec (E P L I A D T × E P L I A D T) Global) → length ys.items ≡ length xs.items → KeepsExpr (expr.Dict xs) (expr.Dict ys)
-    list_comprehension : (x y : Box (E P L I A D T) Global) (a b : Box (ForClauseP P L I A D T) Global) (cs ds : Vec (ClauseP P L I A D T) Global) → KeepsForClause a.value b.value → Each KeepsClause cs.items ds.items → KeepsExpr (expr.ListComprehension x a cs) (expr.ListComprehension y b ds)
-    dict_comprehension : (x y : Box (E P L I A D T × E P L I A D T) Global) (a b : Box (ForClauseP P L I A D T) Global) (cs ds : Vec (ClauseP P L I A D T) Global) → KeepsForClause a.value b.value → Each KeepsClause cs.items ds.items → KeepsExpr (expr.DictComprehension x a cs) (expr.DictComprehension y b ds)
+    not : (x y : Box (E P L I A D T) Global) → SameBox x y → KeepsExpr (expr.Not x) (expr.Not y)
+    minus : (x y : Box (E P L I A D T) Global) → SameBox x y → KeepsExpr (expr.Minus x) (expr.Minus y)
+    plus : (x y : Box (E P L I A D T) Global) → SameBox x y → KeepsExpr (expr.Plus x) (expr.Plus y)
+    bit_not : (x y : Box (E P L I A D T) Global) → SameBox x y → KeepsExpr (expr.BitNot x) (expr.BitNot y)
+    op : (x y : Box (E P L I A D T) Global) (o : BinOp) (v w : Box (E P L I A D T) Global) → SameBox x y → SameBox v w → KeepsExpr (expr.Op x o v) (expr.Op y o w)
+    choice : (x y : Box (E P L I A D T × E P L I A D T × E P L I A D T) Global) → SameBox x y → KeepsExpr (expr.If x) (expr.If y)
+    list : (xs ys : Vec (E P L I A D T) Global) → SameBlock xs ys → length ys.items ≡ length xs.items → KeepsExpr (expr.List xs) (expr.List ys)
+    dict : (xs ys : Vec (E P L I A D T × E P L I A D T) Global) → SameBlock xs ys → length ys.items ≡ length xs.items → KeepsExpr (expr.Dict xs) (expr.Dict ys)
+    list_comprehension : (x y : Box (E P L I A D T) Global) (a b : Box (ForClauseP P L I A D T) Global) (cs ds : Vec (ClauseP P L I A D T) Global) → SameBox x y → SameBox a b → SameBlock cs ds → KeepsForClause a.value b.value → Each KeepsClause cs.items ds.items → KeepsExpr (expr.ListComprehension x a cs) (expr.ListComprehension y b ds)
+    dict_comprehension : (x y : Box (E P L I A D T × E P L I A D T) Global) (a b : Box (ForClauseP P L I A D T) Global) (cs ds : Vec (ClauseP P L I A D T) Global) → SameBox x y → SameBox a b → SameBlock cs ds → KeepsForClause a.value b.value → Each KeepsClause cs.items ds.items → KeepsExpr (expr.DictComprehension x a cs) (expr.DictComprehension y b ds)
     fstring : (x y : Spanned (FStringP P L I A D T)) → AtPlace KeepsFString x y → KeepsExpr (expr.FString x) (expr.FString y)

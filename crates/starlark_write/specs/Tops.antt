@@ -2,6 +2,7 @@
 use Rattle.std.specs.Prelude.{◌≡◌, List, [], ◌∷◌, ◌++◌, flat_map}
 use Rattle.std.specs.Borrow.{MutBor}
 use Rattle.std.specs.Fn.{Mut}
+use Rattle.std.specs.Vec.{SameBlock}
 use Rattle.std.specs.declared.alloc.Global.{Global}
 use Rattle.std.specs.declared.vec.Vec.{Vec}
 use Rattle.starlark_place.specs.Place.{Extent}
@@ -14,10 +15,10 @@ module _ {P L I A D T : Type 0} where
   abbrev pub IsNoList : S P L I A D T → Type 0
   IsNoList x = (xs : Vec (S P L I A D T) Global) → x.node ≡ variant.Statements xs → ⊥
 
-  -- What a tree becomes once each statement at its top is written; between the two stands what was left at each, in order. A list stays a list at its place, of what its statements become; any other statement becomes what was left there, which may be a list.
+  -- What a tree becomes once each statement at its top is written; between the two stands what was left at each, in order. A list stays a list at its place and where it lies in memory, of what its statements become; any other statement becomes what was left there, which may be a list.
   mutual
     pub data Becomes : S P L I A D T → List (S P L I A D T) → S P L I A D T → Type 0 where
-      list : (s : Extent) (xs zs : Vec (S P L I A D T) Global) (ys : List (S P L I A D T)) → EachBecomes xs.items ys zs.items → Becomes (record { span = s; node = variant.Statements xs }) ys (record { span = s; node = variant.Statements zs })
+      list : (s : Extent) (xs zs : Vec (S P L I A D T) Global) (ys : List (S P L I A D T)) → SameBlock xs zs → EachBecomes xs.items ys zs.items → Becomes (record { span = s; node = variant.Statements xs }) ys (record { span = s; node = variant.Statements zs })
       other : (x y : S P L I A D T) → IsNoList x → Becomes x (y ∷ []) y
 
     -- the same of the statements of a list, in order

@@ -1,7 +1,9 @@
 //! Writes to the statements right below a statement.
 
 ghost use Rattle.std.specs.Prelude.{◌≡◌, [], ◌∷◌, length};
+ghost use Rattle.std.specs.Vec.{SameBlock};
 ghost use Rattle.starlark_ast.specs.Statements.{stmts_below};
+ghost use Rattle.starlark_write.specs.Beside.{SameBox};
 ghost use Rattle.starlark_write.specs.BesideStatements.{KeepsHead};
 ghost use Rattle.starlark_write.specs.Writing.{WritesEach, WritesUntil};
 
@@ -15,6 +17,7 @@ fn pair_beside<T, U, E, F: FnMut(&mut T) -> Result<(), E>>(
 ) -> Result<(), E>
     requires { F.IsAlwaysCallable f.old }
     ensures calls { WritesUntil F.FnMut f.old (x.old.value.0 ∷ x.old.value.1 ∷ []) result f.new (x.new.value.0 ∷ x.new.value.1 ∷ []) }
+    ensures block { SameBox x.old x.new }
     ensures kept { other.new ≡ other.old }
     ensures callable { F.IsAlwaysCallable f.new }
 {
@@ -32,6 +35,7 @@ fn on_one<T, F: FnMut(&mut T)>(x: &mut T, f: &mut F)
 fn on_boxed<T, F: FnMut(&mut T)>(x: &mut Box<T>, f: &mut F)
     requires { F.IsAlwaysCallable f.old }
     ensures calls { WritesEach F.FnMut f.old (x.old.value ∷ []) f.new (x.new.value ∷ []) }
+    ensures block { SameBox x.old x.new }
     ensures callable { F.IsAlwaysCallable f.new }
 {
     on_one(&mut **x, f)
@@ -49,6 +53,7 @@ fn on_two<T, F: FnMut(&mut T)>(x: &mut T, y: &mut T, f: &mut F)
 fn on_pair<T, F: FnMut(&mut T)>(x: &mut Box<(T, T)>, f: &mut F)
     requires { F.IsAlwaysCallable f.old }
     ensures calls { WritesEach F.FnMut f.old (x.old.value.0 ∷ x.old.value.1 ∷ []) f.new (x.new.value.0 ∷ x.new.value.1 ∷ []) }
+    ensures block { SameBox x.old x.new }
     ensures callable { F.IsAlwaysCallable f.new }
 {
     let parts = &mut **x;
@@ -58,6 +63,7 @@ fn on_pair<T, F: FnMut(&mut T)>(x: &mut Box<(T, T)>, f: &mut F)
 fn on_beside<T, U, F: FnMut(&mut T)>(x: &mut Box<T>, other: &mut U, f: &mut F)
     requires { F.IsAlwaysCallable f.old }
     ensures calls { WritesEach F.FnMut f.old (x.old.value ∷ []) f.new (x.new.value ∷ []) }
+    ensures block { SameBox x.old x.new }
     ensures kept { other.new ≡ other.old }
     ensures callable { F.IsAlwaysCallable f.new }
 {
@@ -67,6 +73,7 @@ fn on_beside<T, U, F: FnMut(&mut T)>(x: &mut Box<T>, other: &mut U, f: &mut F)
 fn on_pair_beside<T, U, F: FnMut(&mut T)>(x: &mut Box<(T, T)>, other: &mut U, f: &mut F)
     requires { F.IsAlwaysCallable f.old }
     ensures calls { WritesEach F.FnMut f.old (x.old.value.0 ∷ x.old.value.1 ∷ []) f.new (x.new.value.0 ∷ x.new.value.1 ∷ []) }
+    ensures block { SameBox x.old x.new }
     ensures kept { other.new ≡ other.old }
     ensures callable { F.IsAlwaysCallable f.new }
 {
@@ -87,6 +94,7 @@ fn on_each<T, F: FnMut(&mut T)>(xs: &mut [T], f: &mut F)
 fn on_list<T, F: FnMut(&mut T)>(xs: &mut Vec<T>, f: &mut F)
     requires { F.IsAlwaysCallable f.old }
     ensures calls { WritesEach F.FnMut f.old xs.old.items f.new xs.new.items }
+    ensures block { SameBlock xs.old xs.new }
     ensures kept { length xs.new.items ≡ length xs.old.items }
     ensures callable { F.IsAlwaysCallable f.new }
 {

@@ -1,7 +1,8 @@
 //! Writes to the expressions right below an expression.
 
 ghost use Rattle.std.specs.Prelude.{◌≡◌, [], ◌∷◌, ◌++◌, flat_map};
-ghost use Rattle.starlark_write.specs.Beside.{Each, KeepsArgs, KeepsClause, KeepsExpr, KeepsForClause, args_places, stands};
+ghost use Rattle.std.specs.Vec.{SameBlock};
+ghost use Rattle.starlark_write.specs.Beside.{Each, KeepsArgs, KeepsClause, KeepsExpr, KeepsForClause, SameBox, args_places, block_of};
 ghost use Rattle.starlark_ast.specs.Places.{children, clause_places, for_clause_places, maybe_place};
 ghost use Rattle.starlark_write.specs.Writing.{WritesUntil};
 
@@ -15,6 +16,7 @@ fn call<P: AstPayload, E, F: FnMut(&mut AstExprP<P>) -> Result<(), E>>(
 ) -> Result<(), E>
     requires { F.IsAlwaysCallable f.old }
     ensures calls { WritesUntil F.FnMut f.old (x.old.value ∷ args_places args.old) result f.new (x.new.value ∷ args_places args.new) }
+    ensures block { SameBox x.old x.new }
     ensures kept { KeepsArgs args.old args.new }
     ensures callable { F.IsAlwaysCallable f.new }
 {
@@ -32,9 +34,9 @@ fn bounds<P: AstPayload, E, F: FnMut(&mut AstExprP<P>) -> Result<(), E>>(
 ) -> Result<(), E>
     requires { F.IsAlwaysCallable f.old }
     ensures calls { WritesUntil F.FnMut f.old (maybe_place a.old ++ (maybe_place b.old ++ maybe_place c.old)) result f.new (maybe_place a.new ++ (maybe_place b.new ++ maybe_place c.new)) }
-    ensures first { stands a.new ≡ stands a.old }
-    ensures second { stands b.new ≡ stands b.old }
-    ensures third { stands c.new ≡ stands c.old }
+    ensures first { block_of a.new ≡ block_of a.old }
+    ensures second { block_of b.new ≡ block_of b.old }
+    ensures third { block_of c.new ≡ block_of c.old }
     ensures callable { F.IsAlwaysCallable f.new }
 {
     if let Err(e) = maybe(a, f) {
@@ -55,9 +57,10 @@ fn slice<P: AstPayload, E, F: FnMut(&mut AstExprP<P>) -> Result<(), E>>(
 ) -> Result<(), E>
     requires { F.IsAlwaysCallable f.old }
     ensures calls { WritesUntil F.FnMut f.old (x.old.value ∷ maybe_place a.old ++ (maybe_place b.old ++ maybe_place c.old)) result f.new (x.new.value ∷ maybe_place a.new ++ (maybe_place b.new ++ maybe_place c.new)) }
-    ensures first { stands a.new ≡ stands a.old }
-    ensures second { stands b.new ≡ stands b.old }
-    ensures third { stands c.new ≡ stands c.old }
+    ensures block { SameBox x.old x.new }
+    ensures first { block_of a.new ≡ block_of a.old }
+    ensures second { block_of b.new ≡ block_of b.old }
+    ensures third { block_of c.new ≡ block_of c.old }
     ensures callable { F.IsAlwaysCallable f.new }
 {
     if let Err(e) = boxed(x, f) {
@@ -73,6 +76,8 @@ fn clauses<P: AstPayload, E, F: FnMut(&mut AstExprP<P>) -> Result<(), E>>(
 ) -> Result<(), E>
     requires { F.IsAlwaysCallable f.old }
     ensures calls { WritesUntil F.FnMut f.old (for_clause_places first.old.value ++ flat_map clause_places rest.old.items) result f.new (for_clause_places first.new.value ++ flat_map clause_places rest.new.items) }
+    ensures first_block { SameBox first.old first.new }
+    ensures rest_block { SameBlock rest.old rest.new }
     ensures first { KeepsForClause first.old.value first.new.value }
     ensures rest { Each KeepsClause rest.old.items rest.new.items }
     ensures callable { F.IsAlwaysCallable f.new }
@@ -91,6 +96,9 @@ fn listed<P: AstPayload, E, F: FnMut(&mut AstExprP<P>) -> Result<(), E>>(
 ) -> Result<(), E>
     requires { F.IsAlwaysCallable f.old }
     ensures calls { WritesUntil F.FnMut f.old (for_clause_places first.old.value ++ (flat_map clause_places rest.old.items ++ x.old.value ∷ [])) result f.new (for_clause_places first.new.value ++ (flat_map clause_places rest.new.items ++ x.new.value ∷ [])) }
+    ensures block { SameBox x.old x.new }
+    ensures first_block { SameBox first.old first.new }
+    ensures rest_block { SameBlock rest.old rest.new }
     ensures first { KeepsForClause first.old.value first.new.value }
     ensures rest { Each KeepsClause rest.old.items rest.new.items }
     ensures callable { F.IsAlwaysCallable f.new }
@@ -109,6 +117,9 @@ fn mapped<P: AstPayload, E, F: FnMut(&mut AstExprP<P>) -> Result<(), E>>(
 ) -> Result<(), E>
     requires { F.IsAlwaysCallable f.old }
     ensures calls { WritesUntil F.FnMut f.old (for_clause_places first.old.value ++ (flat_map clause_places rest.old.items ++ x.old.value.0 ∷ x.old.value.1 ∷ [])) result f.new (for_clause_places first.new.value ++ (flat_map clause_places rest.new.items ++ x.new.value.0 ∷ x.new.value.1 ∷ [])) }
+    ensures block { SameBox x.old x.new }
+    ensures first_block { SameBox first.old first.new }
+    ensures rest_block { SameBlock rest.old rest.new }
     ensures first { KeepsForClause first.old.value first.new.value }
     ensures rest { Each KeepsClause rest.old.items rest.new.items }
     ensures callable { F.IsAlwaysCallable f.new }

@@ -1,8 +1,9 @@
 //! Writes to the types in expressions.
 
 ghost use Rattle.std.specs.Prelude.{◌≡◌, ◌++◌, flat_map};
+ghost use Rattle.std.specs.Vec.{SameBlock};
 ghost use Rattle.starlark_ast.specs.Access.{argument_expr};
-ghost use Rattle.starlark_write.specs.Beside.{AtPlace, KeepsArgument};
+ghost use Rattle.starlark_write.specs.Beside.{AtPlace, KeepsArgument, SameBox};
 ghost use Rattle.starlark_write.specs.BesideTypes.{KeepsAll, KeepsArguments, KeepsClauseTypes, KeepsClauses, KeepsDefault, KeepsDefaults, KeepsFor, KeepsLambda, KeepsMaybe, KeepsPairs, KeepsTargetTypes, KeepsTargetsTypes, KeepsTypes};
 ghost use Rattle.starlark_write.specs.TypePlaces.{argument_types, clause_types, default_types, expr_types, for_clause_types, lambda_types, maybe_expr_types, target_types};
 ghost use Rattle.starlark_write.specs.Writing.{WritesUntil};
@@ -56,6 +57,7 @@ pub(crate) fn boxed<P: AstPayload, E, F: FnMut(&mut AstTypeExprP<P>) -> Result<(
 ) -> Result<(), E>
     requires { F.IsAlwaysCallable f.old }
     ensures calls { WritesUntil F.FnMut f.old (expr_types x.old.value.node) result f.new (expr_types x.new.value.node) }
+    ensures block { SameBox x.old x.new }
     ensures kept { KeepsTypes x.old.value x.new.value }
     ensures callable { F.IsAlwaysCallable f.new }
 {
@@ -71,6 +73,7 @@ fn named<P: AstPayload, E, F: FnMut(&mut AstTypeExprP<P>) -> Result<(), E>>(
 ) -> Result<(), E>
     requires { F.IsAlwaysCallable f.old }
     ensures calls { WritesUntil F.FnMut f.old (expr_types x.old.value.node) result f.new (expr_types x.new.value.node) }
+    ensures block { SameBox x.old x.new }
     ensures kept { KeepsTypes x.old.value x.new.value }
     ensures name { name.new ≡ name.old }
     ensures callable { F.IsAlwaysCallable f.new }
@@ -105,6 +108,8 @@ fn operation<P: AstPayload, E, F: FnMut(&mut AstTypeExprP<P>) -> Result<(), E>>(
 ) -> Result<(), E>
     requires { F.IsAlwaysCallable f.old }
     ensures calls { WritesUntil F.FnMut f.old (expr_types x.old.value.node ++ expr_types y.old.value.node) result f.new (expr_types x.new.value.node ++ expr_types y.new.value.node) }
+    ensures first_block { SameBox x.old x.new }
+    ensures second_block { SameBox y.old y.new }
     ensures first { KeepsTypes x.old.value x.new.value }
     ensures op { op.new ≡ op.old }
     ensures second { KeepsTypes y.old.value y.new.value }
@@ -120,6 +125,7 @@ fn pair<P: AstPayload, E, F: FnMut(&mut AstTypeExprP<P>) -> Result<(), E>>(
 ) -> Result<(), E>
     requires { F.IsAlwaysCallable f.old }
     ensures calls { WritesUntil F.FnMut f.old (expr_types x.old.value.0.node ++ expr_types x.old.value.1.node) result f.new (expr_types x.new.value.0.node ++ expr_types x.new.value.1.node) }
+    ensures block { SameBox x.old x.new }
     ensures first { KeepsTypes x.old.value.0 x.new.value.0 }
     ensures second { KeepsTypes x.old.value.1 x.new.value.1 }
     ensures callable { F.IsAlwaysCallable f.new }
@@ -155,6 +161,7 @@ fn triple<P: AstPayload, E, F: FnMut(&mut AstTypeExprP<P>) -> Result<(), E>>(
 ) -> Result<(), E>
     requires { F.IsAlwaysCallable f.old }
     ensures calls { WritesUntil F.FnMut f.old (expr_types x.old.value.0.node ++ (expr_types x.old.value.1.node ++ expr_types x.old.value.2.node)) result f.new (expr_types x.new.value.0.node ++ (expr_types x.new.value.1.node ++ expr_types x.new.value.2.node)) }
+    ensures block { SameBox x.old x.new }
     ensures first { KeepsTypes x.old.value.0 x.new.value.0 }
     ensures second { KeepsTypes x.old.value.1 x.new.value.1 }
     ensures third { KeepsTypes x.old.value.2 x.new.value.2 }
@@ -213,6 +220,7 @@ fn slice<P: AstPayload, E, F: FnMut(&mut AstTypeExprP<P>) -> Result<(), E>>(
 ) -> Result<(), E>
     requires { F.IsAlwaysCallable f.old }
     ensures calls { WritesUntil F.FnMut f.old (expr_types x.old.value.node ++ (maybe_expr_types a.old ++ (maybe_expr_types b.old ++ maybe_expr_types c.old))) result f.new (expr_types x.new.value.node ++ (maybe_expr_types a.new ++ (maybe_expr_types b.new ++ maybe_expr_types c.new))) }
+    ensures block { SameBox x.old x.new }
     ensures kept { KeepsTypes x.old.value x.new.value }
     ensures first { KeepsMaybe a.old a.new }
     ensures second { KeepsMaybe b.old b.new }
@@ -233,6 +241,8 @@ fn call<P: AstPayload, E, F: FnMut(&mut AstTypeExprP<P>) -> Result<(), E>>(
 ) -> Result<(), E>
     requires { F.IsAlwaysCallable f.old }
     ensures calls { WritesUntil F.FnMut f.old (expr_types x.old.value.node ++ flat_map (λ a. argument_types a.node) args.old.args.items) result f.new (expr_types x.new.value.node ++ flat_map (λ a. argument_types a.node) args.new.args.items) }
+    ensures block { SameBox x.old x.new }
+    ensures arguments_block { SameBlock args.old.args args.new.args }
     ensures kept { KeepsTypes x.old.value x.new.value }
     ensures arguments { KeepsArguments args.old.args.items args.new.args.items }
     ensures callable { F.IsAlwaysCallable f.new }
@@ -250,6 +260,7 @@ fn list<P: AstPayload, E, F: FnMut(&mut AstTypeExprP<P>) -> Result<(), E>>(
 ) -> Result<(), E>
     requires { F.IsAlwaysCallable f.old }
     ensures calls { WritesUntil F.FnMut f.old (flat_map (λ x. expr_types x.node) xs.old.items) result f.new (flat_map (λ x. expr_types x.node) xs.new.items) }
+    ensures block { SameBlock xs.old xs.new }
     ensures kept { KeepsAll xs.old.items xs.new.items }
     ensures callable { F.IsAlwaysCallable f.new }
 {
@@ -281,6 +292,7 @@ fn dict<P: AstPayload, E, F: FnMut(&mut AstTypeExprP<P>) -> Result<(), E>>(
 ) -> Result<(), E>
     requires { F.IsAlwaysCallable f.old }
     ensures calls { WritesUntil F.FnMut f.old (flat_map (λ x. expr_types x.0.node ++ expr_types x.1.node) xs.old.items) result f.new (flat_map (λ x. expr_types x.0.node ++ expr_types x.1.node) xs.new.items) }
+    ensures block { SameBlock xs.old xs.new }
     ensures kept { KeepsPairs xs.old.items xs.new.items }
     ensures callable { F.IsAlwaysCallable f.new }
 {
@@ -326,6 +338,7 @@ fn arguments<P: AstPayload, E, F: FnMut(&mut AstTypeExprP<P>) -> Result<(), E>>(
 ) -> Result<(), E>
     requires { F.IsAlwaysCallable f.old }
     ensures calls { WritesUntil F.FnMut f.old (flat_map (λ a. argument_types a.node) xs.old.items) result f.new (flat_map (λ a. argument_types a.node) xs.new.items) }
+    ensures block { SameBlock xs.old xs.new }
     ensures kept { KeepsArguments xs.old.items xs.new.items }
     ensures callable { F.IsAlwaysCallable f.new }
 {
@@ -391,6 +404,7 @@ pub(crate) fn defaults<P: AstPayload, E, F: FnMut(&mut AstTypeExprP<P>) -> Resul
 ) -> Result<(), E>
     requires { F.IsAlwaysCallable f.old }
     ensures calls { WritesUntil F.FnMut f.old (flat_map (λ p. default_types p.node) xs.old.items) result f.new (flat_map (λ p. default_types p.node) xs.new.items) }
+    ensures block { SameBlock xs.old xs.new }
     ensures kept { KeepsDefaults xs.old.items xs.new.items }
     ensures callable { F.IsAlwaysCallable f.new }
 {
@@ -460,6 +474,9 @@ fn listed<P: AstPayload, E, F: FnMut(&mut AstTypeExprP<P>) -> Result<(), E>>(
 ) -> Result<(), E>
     requires { F.IsAlwaysCallable f.old }
     ensures calls { WritesUntil F.FnMut f.old (for_clause_types first.old.value ++ (flat_map clause_types rest.old.items ++ expr_types x.old.value.node)) result f.new (for_clause_types first.new.value ++ (flat_map clause_types rest.new.items ++ expr_types x.new.value.node)) }
+    ensures block { SameBox x.old x.new }
+    ensures first_block { SameBox first.old first.new }
+    ensures rest_block { SameBlock rest.old rest.new }
     ensures first { KeepsFor first.old.value first.new.value }
     ensures rest { KeepsClauses rest.old.items rest.new.items }
     ensures kept { KeepsTypes x.old.value x.new.value }
@@ -480,6 +497,9 @@ fn mapped<P: AstPayload, E, F: FnMut(&mut AstTypeExprP<P>) -> Result<(), E>>(
 ) -> Result<(), E>
     requires { F.IsAlwaysCallable f.old }
     ensures calls { WritesUntil F.FnMut f.old (for_clause_types first.old.value ++ (flat_map clause_types rest.old.items ++ (expr_types x.old.value.0.node ++ expr_types x.old.value.1.node))) result f.new (for_clause_types first.new.value ++ (flat_map clause_types rest.new.items ++ (expr_types x.new.value.0.node ++ expr_types x.new.value.1.node))) }
+    ensures block { SameBox x.old x.new }
+    ensures first_block { SameBox first.old first.new }
+    ensures rest_block { SameBlock rest.old rest.new }
     ensures first { KeepsFor first.old.value first.new.value }
     ensures rest { KeepsClauses rest.old.items rest.new.items }
     ensures key { KeepsTypes x.old.value.0 x.new.value.0 }
@@ -500,6 +520,8 @@ fn clauses<P: AstPayload, E, F: FnMut(&mut AstTypeExprP<P>) -> Result<(), E>>(
 ) -> Result<(), E>
     requires { F.IsAlwaysCallable f.old }
     ensures calls { WritesUntil F.FnMut f.old (for_clause_types first.old.value ++ flat_map clause_types rest.old.items) result f.new (for_clause_types first.new.value ++ flat_map clause_types rest.new.items) }
+    ensures first_block { SameBox first.old first.new }
+    ensures rest_block { SameBlock rest.old rest.new }
     ensures first { KeepsFor first.old.value first.new.value }
     ensures rest { KeepsClauses rest.old.items rest.new.items }
     ensures callable { F.IsAlwaysCallable f.new }
@@ -517,6 +539,7 @@ fn others<P: AstPayload, E, F: FnMut(&mut AstTypeExprP<P>) -> Result<(), E>>(
 ) -> Result<(), E>
     requires { F.IsAlwaysCallable f.old }
     ensures calls { WritesUntil F.FnMut f.old (flat_map clause_types xs.old.items) result f.new (flat_map clause_types xs.new.items) }
+    ensures block { SameBlock xs.old xs.new }
     ensures kept { KeepsClauses xs.old.items xs.new.items }
     ensures callable { F.IsAlwaysCallable f.new }
 {
@@ -598,6 +621,7 @@ fn targets<P: AstPayload, E, F: FnMut(&mut AstTypeExprP<P>) -> Result<(), E>>(
 ) -> Result<(), E>
     requires { F.IsAlwaysCallable f.old }
     ensures calls { WritesUntil F.FnMut f.old (flat_map (λ x. target_types x.node) xs.old.items) result f.new (flat_map (λ x. target_types x.node) xs.new.items) }
+    ensures block { SameBlock xs.old xs.new }
     ensures kept { KeepsTargetsTypes xs.old.items xs.new.items }
     ensures callable { F.IsAlwaysCallable f.new }
 {
@@ -629,6 +653,7 @@ fn fstring<P: AstPayload, E, F: FnMut(&mut AstTypeExprP<P>) -> Result<(), E>>(
 ) -> Result<(), E>
     requires { F.IsAlwaysCallable f.old }
     ensures calls { WritesUntil F.FnMut f.old (flat_map (λ y. expr_types y.node) x.old.node.expressions.items) result f.new (flat_map (λ y. expr_types y.node) x.new.node.expressions.items) }
+    ensures block { SameBlock x.old.node.expressions x.new.node.expressions }
     ensures span { x.new.span ≡ x.old.span }
     ensures format { x.new.node.format ≡ x.old.node.format }
     ensures kept { KeepsAll x.old.node.expressions.items x.new.node.expressions.items }

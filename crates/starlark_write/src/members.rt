@@ -1,7 +1,7 @@
 //! Writes to the expressions in arguments, parameters, clauses, lambdas and f-strings.
 
 ghost use Rattle.std.specs.Prelude.{◌≡◌, ⊤, [], ◌∷◌, ◌++◌};
-ghost use Rattle.starlark_write.specs.Beside.{AtPlace, KeepsArgs, KeepsArgument, KeepsClause, KeepsForClause, KeepsFString, KeepsLambda, KeepsMaybeType, KeepsParameter, args_places, fstring_places, lambda_places, stands};
+ghost use Rattle.starlark_write.specs.Beside.{AtPlace, KeepsArgs, KeepsArgument, KeepsClause, KeepsForClause, KeepsFString, KeepsLambda, KeepsMaybeType, KeepsParameter, args_places, block_of, fstring_places, lambda_places};
 ghost use Rattle.starlark_ast.specs.Places.{argument_place, clause_places, for_clause_places, maybe_place, maybe_type_place, pair_places, parameter_places};
 ghost use Rattle.starlark_write.specs.Writing.{WritesUntil};
 
@@ -63,7 +63,7 @@ fn normal<P: AstPayload, U, E, F: FnMut(&mut AstExprP<P>) -> Result<(), E>>(
     ensures calls { WritesUntil F.FnMut f.old (maybe_type_place ty.old ++ maybe_place default.old) result f.new (maybe_type_place ty.new ++ maybe_place default.new) }
     ensures other { other.new ≡ other.old }
     ensures ty { KeepsMaybeType ty.old ty.new }
-    ensures default { stands default.new ≡ stands default.old }
+    ensures default { block_of default.new ≡ block_of default.old }
     ensures callable { F.IsAlwaysCallable f.new }
 {
     if let Err(e) = maybe_type(ty, f) {

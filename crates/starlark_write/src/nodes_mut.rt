@@ -1,9 +1,11 @@
 //! Visitors that write to the nodes right below a statement.
 
 ghost use Rattle.std.specs.Prelude.{◌≡◌, List, Result, Ok, map, [], ◌∷◌, length};
+ghost use Rattle.std.specs.Vec.{SameBlock};
 ghost use Rattle.starlark_ast.specs.Calls.{CalledOn};
 ghost use Rattle.starlark_ast.specs.Nodes.{Node, expression, nodes_below, statement};
 ghost use Rattle.starlark_ast.specs.Statements.{exprs_below};
+ghost use Rattle.starlark_write.specs.Beside.{SameBox};
 ghost use Rattle.starlark_write.specs.BesideStatements.{KeepsNodes, KeepsStmt};
 ghost use Rattle.starlark_write.specs.WritingNodes.{NodesEach, NodesUntil, visited};
 
@@ -155,6 +157,7 @@ fn one<S, X, E, V: NodeVisitorMut<S, X, E>>(x: &mut S, v: &mut V) -> Result<(), 
 fn boxed<S, X, E, V: NodeVisitorMut<S, X, E>>(x: &mut Box<S>, v: &mut V) -> Result<(), E>
     requires { V.ready v.old }
     ensures calls { NodesUntil V.leaves v.old (statement x.old.value ∷ []) result v.new (statement x.new.value ∷ []) }
+    ensures block { SameBox x.old x.new }
     ensures ready { V.ready v.new }
 {
     one(&mut **x, v)
@@ -179,6 +182,7 @@ fn beside<S, X, U, E, V: NodeVisitorMut<S, X, E>>(
 ) -> Result<(), E>
     requires { V.ready v.old }
     ensures calls { NodesUntil V.leaves v.old (statement x.old.value ∷ []) result v.new (statement x.new.value ∷ []) }
+    ensures block { SameBox x.old x.new }
     ensures kept { other.new ≡ other.old }
     ensures ready { V.ready v.new }
 {
@@ -192,6 +196,7 @@ fn pair<S, X, U, E, V: NodeVisitorMut<S, X, E>>(
 ) -> Result<(), E>
     requires { V.ready v.old }
     ensures calls { NodesUntil V.leaves v.old (statement x.old.value.0 ∷ statement x.old.value.1 ∷ []) result v.new (statement x.new.value.0 ∷ statement x.new.value.1 ∷ []) }
+    ensures block { SameBox x.old x.new }
     ensures kept { other.new ≡ other.old }
     ensures ready { V.ready v.new }
 {
@@ -216,6 +221,7 @@ fn each<S, X, E, V: NodeVisitorMut<S, X, E>>(xs: &mut [S], v: &mut V) -> Result<
 fn list<S, X, E, V: NodeVisitorMut<S, X, E>>(xs: &mut Vec<S>, v: &mut V) -> Result<(), E>
     requires { V.ready v.old }
     ensures calls { NodesUntil V.leaves v.old (map statement xs.old.items) result v.new (map statement xs.new.items) }
+    ensures block { SameBlock xs.old xs.new }
     ensures kept { length xs.new.items ≡ length xs.old.items }
     ensures ready { V.ready v.new }
 {

@@ -1,7 +1,9 @@
 //! Writes to the outermost expressions of a statement.
 
 ghost use Rattle.std.specs.Prelude.{◌≡◌, [], ◌∷◌, flat_map};
+ghost use Rattle.std.specs.Vec.{SameBlock};
 ghost use Rattle.starlark_ast.specs.Statements.{outer_exprs, stmts_below};
+ghost use Rattle.starlark_write.specs.Beside.{SameBox};
 ghost use Rattle.starlark_write.specs.BesideStatements.{KeepsDefHead, KeepsForHead, KeepsHead, KeepsOuter, KeepsOuters, def_body, for_body};
 ghost use Rattle.starlark_write.specs.Writing.{WritesUntil};
 
@@ -61,6 +63,7 @@ fn in_list<P: AstPayload, E, F: FnMut(&mut AstExprP<P>) -> Result<(), E>>(
 ) -> Result<(), E>
     requires { F.IsAlwaysCallable f.old }
     ensures calls { WritesUntil F.FnMut f.old (flat_map (λ s. outer_exprs s.node) xs.old.items) result f.new (flat_map (λ s. outer_exprs s.node) xs.new.items) }
+    ensures block { SameBlock xs.old xs.new }
     ensures kept { KeepsOuters xs.old.items xs.new.items }
     ensures callable { F.IsAlwaysCallable f.new }
 {
@@ -92,6 +95,7 @@ fn in_box<P: AstPayload, E, F: FnMut(&mut AstExprP<P>) -> Result<(), E>>(
 ) -> Result<(), E>
     requires { F.IsAlwaysCallable f.old }
     ensures calls { WritesUntil F.FnMut f.old (flat_map (λ s. outer_exprs s.node) (x.old.value ∷ [])) result f.new (flat_map (λ s. outer_exprs s.node) (x.new.value ∷ [])) }
+    ensures block { SameBox x.old x.new }
     ensures kept { KeepsOuters (x.old.value ∷ []) (x.new.value ∷ []) }
     ensures callable { F.IsAlwaysCallable f.new }
 {
@@ -107,6 +111,7 @@ fn in_box_beside<P: AstPayload, E, F: FnMut(&mut AstExprP<P>) -> Result<(), E>>(
 ) -> Result<(), E>
     requires { F.IsAlwaysCallable f.old }
     ensures calls { WritesUntil F.FnMut f.old (flat_map (λ s. outer_exprs s.node) (x.old.value ∷ [])) result f.new (flat_map (λ s. outer_exprs s.node) (x.new.value ∷ [])) }
+    ensures block { SameBox x.old x.new }
     ensures kept { KeepsOuters (x.old.value ∷ []) (x.new.value ∷ []) }
     ensures other { other.new ≡ other.old }
     ensures callable { F.IsAlwaysCallable f.new }
@@ -122,6 +127,7 @@ fn in_pair<P: AstPayload, E, F: FnMut(&mut AstExprP<P>) -> Result<(), E>>(
 ) -> Result<(), E>
     requires { F.IsAlwaysCallable f.old }
     ensures calls { WritesUntil F.FnMut f.old (flat_map (λ s. outer_exprs s.node) (x.old.value.0 ∷ x.old.value.1 ∷ [])) result f.new (flat_map (λ s. outer_exprs s.node) (x.new.value.0 ∷ x.new.value.1 ∷ [])) }
+    ensures block { SameBox x.old x.new }
     ensures kept { KeepsOuters (x.old.value.0 ∷ x.old.value.1 ∷ []) (x.new.value.0 ∷ x.new.value.1 ∷ []) }
     ensures other { other.new ≡ other.old }
     ensures callable { F.IsAlwaysCallable f.new }

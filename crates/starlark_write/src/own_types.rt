@@ -1,9 +1,10 @@
 //! Writes to the types of parameters.
 
 ghost use Rattle.std.specs.Prelude.{◌≡◌, ◌++◌, flat_map};
+ghost use Rattle.std.specs.Vec.{SameBlock};
 ghost use Rattle.starlark_ast.specs.Places.{maybe_place};
 ghost use Rattle.starlark_ast.specs.Statements.{maybe_here};
-ghost use Rattle.starlark_write.specs.Beside.{AtPlace, Each, stands};
+ghost use Rattle.starlark_write.specs.Beside.{AtPlace, Each, block_of, stands};
 ghost use Rattle.starlark_write.specs.BesideTypes.{KeepsOwn};
 ghost use Rattle.starlark_write.specs.TypePlaces.{own_type};
 ghost use Rattle.starlark_write.specs.Writing.{WritesUntil};
@@ -20,6 +21,7 @@ pub(crate) fn own_types<P: AstPayload, E, F: FnMut(&mut AstTypeExprP<P>) -> Resu
 ) -> Result<(), E>
     requires { F.IsAlwaysCallable f.old }
     ensures calls { WritesUntil F.FnMut f.old (flat_map (λ p. own_type p.node) xs.old.items) result f.new (flat_map (λ p. own_type p.node) xs.new.items) }
+    ensures block { SameBlock xs.old xs.new }
     ensures kept { Each (AtPlace KeepsOwn) xs.old.items xs.new.items }
     ensures callable { F.IsAlwaysCallable f.new }
 {
@@ -70,7 +72,7 @@ fn behind<P: AstPayload, E, F: FnMut(&mut AstTypeExprP<P>) -> Result<(), E>>(
     requires { F.IsAlwaysCallable f.old }
     ensures calls { WritesUntil F.FnMut f.old (maybe_place ty.old) result f.new (maybe_place ty.new) }
     ensures name { name.new ≡ name.old }
-    ensures kept { stands ty.new ≡ stands ty.old }
+    ensures kept { block_of ty.new ≡ block_of ty.old }
     ensures callable { F.IsAlwaysCallable f.new }
 {
     maybe(ty, f)
@@ -86,7 +88,7 @@ fn between<P: AstPayload, E, F: FnMut(&mut AstTypeExprP<P>) -> Result<(), E>>(
     requires { F.IsAlwaysCallable f.old }
     ensures calls { WritesUntil F.FnMut f.old (maybe_place ty.old) result f.new (maybe_place ty.new) }
     ensures name { name.new ≡ name.old }
-    ensures kept { stands ty.new ≡ stands ty.old }
+    ensures kept { block_of ty.new ≡ block_of ty.old }
     ensures default { default.new ≡ default.old }
     ensures callable { F.IsAlwaysCallable f.new }
 {
@@ -117,8 +119,9 @@ pub(crate) fn defined<P: AstPayload, E, F: FnMut(&mut AstTypeExprP<P>) -> Result
 ) -> Result<(), E>
     requires { F.IsAlwaysCallable f.old }
     ensures calls { WritesUntil F.FnMut f.old (flat_map (λ p. own_type p.node) params.old.items ++ maybe_place returned.old) result f.new (flat_map (λ p. own_type p.node) params.new.items ++ maybe_place returned.new) }
+    ensures block { SameBlock params.old params.new }
     ensures params { Each (AtPlace KeepsOwn) params.old.items params.new.items }
-    ensures returned { stands returned.new ≡ stands returned.old }
+    ensures returned { block_of returned.new ≡ block_of returned.old }
     ensures callable { F.IsAlwaysCallable f.new }
 {
     if let Err(e) = own_types(params, f) {

@@ -1,7 +1,7 @@
 //! Writes to what stands right below a statement.
 
 ghost use Rattle.std.specs.Prelude.{◌≡◌, [], ◌∷◌, ◌++◌};
-ghost use Rattle.starlark_write.specs.Beside.{AtPlace, KeepsTarget, stands};
+ghost use Rattle.starlark_write.specs.Beside.{AtPlace, KeepsTarget, SameBox, stands};
 ghost use Rattle.starlark_write.specs.BesideStatements.{KeepsAssign, KeepsDef, KeepsFor, KeepsStmt, KeepsTypeHere};
 ghost use Rattle.starlark_ast.specs.Places.{target_places};
 ghost use Rattle.starlark_ast.specs.Statements.{assign_places, def_places, exprs_below, for_places, maybe_here, maybe_type_here};
@@ -61,6 +61,7 @@ fn modified<P: AstPayload, E, F: FnMut(&mut AstExprP<P>) -> Result<(), E>>(
 ) -> Result<(), E>
     requires { F.IsAlwaysCallable f.old }
     ensures calls { WritesUntil F.FnMut f.old (target_places lhs.old.node ++ rhs.old.value ∷ []) result f.new (target_places lhs.new.node ++ rhs.new.value ∷ []) }
+    ensures block { SameBox rhs.old rhs.new }
     ensures target { AtPlace KeepsTarget lhs.old lhs.new }
     ensures operator { op.new ≡ op.old }
     ensures callable { F.IsAlwaysCallable f.new }

@@ -2,6 +2,7 @@
 
 ghost use Rattle.std.specs.Prelude.{◌≡◌, Ok, [], flat_map};
 ghost use Rattle.std.specs.Fn.{CalledAtMut};
+ghost use Rattle.std.specs.Vec.{SameBlock};
 ghost use Rattle.starlark_write.specs.Beside.{KeepsAllPlaces, KeepsPlaces, KeepsTarget, KeepsTargets};
 ghost use Rattle.starlark_ast.specs.Places.{assigned_places, target_places};
 ghost use Rattle.starlark_write.specs.Writing.{WritesUntil};
@@ -34,6 +35,7 @@ fn targets<P: AstPayload, E, F: FnMut(&mut AstExprP<P>) -> Result<(), E>>(
 ) -> Result<(), E>
     requires { F.IsAlwaysCallable f.old }
     ensures calls { WritesUntil F.FnMut f.old (flat_map (λ x. target_places x.node) xs.old.items) result f.new (flat_map (λ x. target_places x.node) xs.new.items) }
+    ensures block { SameBlock xs.old xs.new }
     ensures kept { KeepsTargets xs.old.items xs.new.items }
     ensures callable { F.IsAlwaysCallable f.new }
 {
@@ -83,6 +85,7 @@ fn lvalues<P: AstPayload, E, F: FnMut(&mut AstAssignIdentP<P>) -> Result<(), E>>
 ) -> Result<(), E>
     requires { F.IsAlwaysCallable f.old }
     ensures calls { WritesUntil F.FnMut f.old (flat_map (λ x. assigned_places x.node) xs.old.items) result f.new (flat_map (λ x. assigned_places x.node) xs.new.items) }
+    ensures block { SameBlock xs.old xs.new }
     ensures kept { KeepsAllPlaces xs.old.items xs.new.items }
     ensures callable { F.IsAlwaysCallable f.new }
 {

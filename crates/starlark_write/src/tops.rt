@@ -1,5 +1,6 @@
 //! Writes to the statements at the top of a tree.
 
+ghost use Rattle.std.specs.Vec.{SameBlock};
 ghost use Rattle.starlark_write.specs.Tops.{WritesEachTop, WritesTops};
 
 use starlark_ast::ast::{AstPayload, AstStmtP, StmtP};
@@ -26,6 +27,7 @@ pub fn top_level_stmts_mut<P: AstPayload, F: FnMut(&mut AstStmtP<P>)>(
 fn list<P: AstPayload, F: FnMut(&mut AstStmtP<P>)>(xs: &mut Vec<AstStmtP<P>>, f: &mut F)
     requires { F.IsAlwaysCallable f.old }
     ensures written { WritesEachTop F.FnMut f.old xs.old.items f.new xs.new.items }
+    ensures block { SameBlock xs.old xs.new }
     ensures callable { F.IsAlwaysCallable f.new }
 {
     each(xs, f)

@@ -1,7 +1,8 @@
 //! Writes to the types in a statement.
 
 ghost use Rattle.std.specs.Prelude.{◌≡◌, List, ◌++◌, flat_map};
-ghost use Rattle.starlark_write.specs.Beside.{AtPlace};
+ghost use Rattle.std.specs.Vec.{SameBlock};
+ghost use Rattle.starlark_write.specs.Beside.{AtPlace, SameBox};
 ghost use Rattle.starlark_write.specs.BesideTypes.{KeepsAssign, KeepsDef, KeepsForStmt, KeepsReturned, KeepsStmtTypes, KeepsStmtsTypes, KeepsTargetTypes, KeepsTypes};
 ghost use Rattle.starlark_write.specs.TypePlaces.{Y, assign_types, def_types, expr_types, for_types, returned_types, stmt_types, target_types};
 ghost use Rattle.starlark_write.specs.Writing.{WritesUntil};
@@ -74,6 +75,7 @@ fn modify<P: AstPayload, E, F: FnMut(&mut AstTypeExprP<P>) -> Result<(), E>>(
 ) -> Result<(), E>
     requires { F.IsAlwaysCallable f.old }
     ensures calls { WritesUntil F.FnMut f.old (target_types lhs.old.node ++ expr_types rhs.old.value.node) result f.new (target_types lhs.new.node ++ expr_types rhs.new.value.node) }
+    ensures block { SameBox rhs.old rhs.new }
     ensures target { KeepsTargetTypes lhs.old lhs.new }
     ensures op { op.new ≡ op.old }
     ensures kept { KeepsTypes rhs.old.value rhs.new.value }
@@ -119,6 +121,7 @@ fn stmts<P: AstPayload, E, F: FnMut(&mut AstTypeExprP<P>) -> Result<(), E>>(
 ) -> Result<(), E>
     requires { F.IsAlwaysCallable f.old }
     ensures calls { WritesUntil F.FnMut f.old (flat_map (λ x. stmt_types x.node) xs.old.items) result f.new (flat_map (λ x. stmt_types x.node) xs.new.items) }
+    ensures block { SameBlock xs.old xs.new }
     ensures kept { KeepsStmtsTypes xs.old.items xs.new.items }
     ensures callable { F.IsAlwaysCallable f.new }
 {
@@ -150,6 +153,7 @@ fn body<P: AstPayload, E, F: FnMut(&mut AstTypeExprP<P>) -> Result<(), E>>(
 ) -> Result<(), E>
     requires { F.IsAlwaysCallable f.old }
     ensures calls { WritesUntil F.FnMut f.old (stmt_types x.old.value.node) result f.new (stmt_types x.new.value.node) }
+    ensures block { SameBox x.old x.new }
     ensures kept { AtPlace KeepsStmtTypes x.old.value x.new.value }
     ensures callable { F.IsAlwaysCallable f.new }
 {
@@ -165,6 +169,7 @@ fn branch<P: AstPayload, E, F: FnMut(&mut AstTypeExprP<P>) -> Result<(), E>>(
 ) -> Result<(), E>
     requires { F.IsAlwaysCallable f.old }
     ensures calls { WritesUntil F.FnMut f.old (expr_types c.old.node ++ stmt_types x.old.value.node) result f.new (expr_types c.new.node ++ stmt_types x.new.value.node) }
+    ensures block { SameBox x.old x.new }
     ensures condition { KeepsTypes c.old c.new }
     ensures kept { AtPlace KeepsStmtTypes x.old.value x.new.value }
     ensures callable { F.IsAlwaysCallable f.new }
@@ -183,6 +188,7 @@ fn branches<P: AstPayload, E, F: FnMut(&mut AstTypeExprP<P>) -> Result<(), E>>(
 ) -> Result<(), E>
     requires { F.IsAlwaysCallable f.old }
     ensures calls { WritesUntil F.FnMut f.old (expr_types c.old.node ++ (stmt_types x.old.value.0.node ++ stmt_types x.old.value.1.node)) result f.new (expr_types c.new.node ++ (stmt_types x.new.value.0.node ++ stmt_types x.new.value.1.node)) }
+    ensures block { SameBox x.old x.new }
     ensures condition { KeepsTypes c.old c.new }
     ensures first { AtPlace KeepsStmtTypes x.old.value.0 x.new.value.0 }
     ensures second { AtPlace KeepsStmtTypes x.old.value.1 x.new.value.1 }
@@ -201,6 +207,7 @@ fn both_stmts<P: AstPayload, E, F: FnMut(&mut AstTypeExprP<P>) -> Result<(), E>>
 ) -> Result<(), E>
     requires { F.IsAlwaysCallable f.old }
     ensures calls { WritesUntil F.FnMut f.old (stmt_types x.old.value.0.node ++ stmt_types x.old.value.1.node) result f.new (stmt_types x.new.value.0.node ++ stmt_types x.new.value.1.node) }
+    ensures block { SameBox x.old x.new }
     ensures first { AtPlace KeepsStmtTypes x.old.value.0 x.new.value.0 }
     ensures second { AtPlace KeepsStmtTypes x.old.value.1 x.new.value.1 }
     ensures callable { F.IsAlwaysCallable f.new }

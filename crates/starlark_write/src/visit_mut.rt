@@ -2,7 +2,8 @@
 
 ghost use Rattle.std.specs.Prelude.{◌≡◌, Ok, List, [], ◌∷◌, flat_map, length};
 ghost use Rattle.std.specs.Fn.{CalledAtMut};
-ghost use Rattle.starlark_write.specs.Beside.{Each, KeepsMaybeType, stands};
+ghost use Rattle.std.specs.Vec.{SameBlock};
+ghost use Rattle.starlark_write.specs.Beside.{Each, KeepsMaybeType, SameBox, block_of};
 ghost use Rattle.starlark_write.specs.Beside.{Assigned};
 ghost use Rattle.starlark_ast.specs.Places.{E as Place, maybe_place, maybe_type_place};
 ghost use Rattle.starlark_write.specs.Writing.{WritesEach, WritesUntil};
@@ -120,6 +121,7 @@ pub(crate) fn boxed<T, E, F: FnMut(&mut T) -> Result<(), E>>(
 ) -> Result<(), E>
     requires { F.IsAlwaysCallable f.old }
     ensures calls { WritesUntil F.FnMut f.old (x.old.value ∷ []) result f.new (x.new.value ∷ []) }
+    ensures block { SameBox x.old x.new }
     ensures callable { F.IsAlwaysCallable f.new }
 {
     one(&mut **x, f)
@@ -162,6 +164,7 @@ pub(crate) fn pair<T, E, F: FnMut(&mut T) -> Result<(), E>>(
 ) -> Result<(), E>
     requires { F.IsAlwaysCallable f.old }
     ensures calls { WritesUntil F.FnMut f.old (x.old.value.0 ∷ x.old.value.1 ∷ []) result f.new (x.new.value.0 ∷ x.new.value.1 ∷ []) }
+    ensures block { SameBox x.old x.new }
     ensures callable { F.IsAlwaysCallable f.new }
 {
     let parts = &mut **x;
@@ -174,6 +177,7 @@ pub(crate) fn triple<T, E, F: FnMut(&mut T) -> Result<(), E>>(
 ) -> Result<(), E>
     requires { F.IsAlwaysCallable f.old }
     ensures calls { WritesUntil F.FnMut f.old (x.old.value.0 ∷ x.old.value.1 ∷ x.old.value.2 ∷ []) result f.new (x.new.value.0 ∷ x.new.value.1 ∷ x.new.value.2 ∷ []) }
+    ensures block { SameBox x.old x.new }
     ensures callable { F.IsAlwaysCallable f.new }
 {
     let parts = &mut **x;
@@ -186,7 +190,7 @@ pub(crate) fn maybe<T, E, F: FnMut(&mut T) -> Result<(), E>>(
 ) -> Result<(), E>
     requires { F.IsAlwaysCallable f.old }
     ensures calls { WritesUntil F.FnMut f.old (maybe_place x.old) result f.new (maybe_place x.new) }
-    ensures kept { stands x.new ≡ stands x.old }
+    ensures kept { block_of x.new ≡ block_of x.old }
     ensures callable { F.IsAlwaysCallable f.new }
 {
     match x {
@@ -233,6 +237,7 @@ pub(crate) fn list<T, E, F: FnMut(&mut T) -> Result<(), E>>(
 ) -> Result<(), E>
     requires { F.IsAlwaysCallable f.old }
     ensures calls { WritesUntil F.FnMut f.old xs.old.items result f.new xs.new.items }
+    ensures block { SameBlock xs.old xs.new }
     ensures kept { length xs.new.items ≡ length xs.old.items }
     ensures callable { F.IsAlwaysCallable f.new }
 {
@@ -248,6 +253,7 @@ pub(crate) fn parts<
 >(xs: &mut Vec<L>, f: &mut F) -> Result<(), E>
     requires { F.IsAlwaysCallable f.old }
     ensures calls { WritesUntil F.FnMut f.old (flat_map L.parts xs.old.items) result f.new (flat_map L.parts xs.new.items) }
+    ensures block { SameBlock xs.old xs.new }
     ensures kept { Each L.keeps xs.old.items xs.new.items }
     ensures callable { F.IsAlwaysCallable f.new }
 {
@@ -262,6 +268,7 @@ pub(crate) fn beside<T, U, E, F: FnMut(&mut T) -> Result<(), E>>(
 ) -> Result<(), E>
     requires { F.IsAlwaysCallable f.old }
     ensures calls { WritesUntil F.FnMut f.old (x.old.value ∷ []) result f.new (x.new.value ∷ []) }
+    ensures block { SameBox x.old x.new }
     ensures kept { other.new ≡ other.old }
     ensures callable { F.IsAlwaysCallable f.new }
 {
@@ -277,6 +284,8 @@ pub(crate) fn around<T, U, E, F: FnMut(&mut T) -> Result<(), E>>(
 ) -> Result<(), E>
     requires { F.IsAlwaysCallable f.old }
     ensures calls { WritesUntil F.FnMut f.old (x.old.value ∷ y.old.value ∷ []) result f.new (x.new.value ∷ y.new.value ∷ []) }
+    ensures first_block { SameBox x.old x.new }
+    ensures second_block { SameBox y.old y.new }
     ensures kept { other.new ≡ other.old }
     ensures callable { F.IsAlwaysCallable f.new }
 {

@@ -1,5 +1,7 @@
 use Rattle.std.proofs.Common.{sym, ap, ◌∙◌, subst, [], ◌∷◌, length}
 use denote.Param.{param}
+use Rattle.std.specs.Vec.{SameBlock}
+use Rattle.starlark_write.specs.Beside.{SameBox}
 use Rattle.starlark_write.specs.BesideStatements as beside
 use Rattle.starlark_write.specs.BesideStatements.{KeepsDefHead, KeepsForHead, KeepsHead, def_body, for_body}
 use Rattle.starlark_ast.specs.Statements.{stmts_below, stmts_layer}
@@ -17,7 +19,7 @@ returns-in-Statements-clause-calls g c =
 
 pub returns-in-Statements-clause-kept : goal.returns-in-Statements-clause-kept
 returns-in-Statements-clause-kept g c =
-    stmt_lent (param 0 g.row.P) (param 1 g.row.P-LoadPayload) (param 2 g.row.P-IdentPayload) (param 3 g.row.P-IdentAssignPayload) (param 4 g.row.P-DefPayload) (param 5 g.row.P-TypeExprPayload) 7 (λ y v. stmt.Statements y) KeepsHead c.on_list.new.xs (c.in-Statements.xs, tt) c.in-Statements.is (beside.head_statements _ _ (c.on_list.ensures.kept ∙ ap (λ q. length q.items) c.in-Statements.xs-is))
+    stmt_lent (param 0 g.row.P) (param 1 g.row.P-LoadPayload) (param 2 g.row.P-IdentPayload) (param 3 g.row.P-IdentAssignPayload) (param 4 g.row.P-DefPayload) (param 5 g.row.P-TypeExprPayload) 7 (λ y v. stmt.Statements y) KeepsHead c.on_list.new.xs (c.in-Statements.xs, tt) c.in-Statements.is (beside.head_statements _ _ (seen_left SameBlock {u = c.on_list.new.xs} c.in-Statements.xs-is c.on_list.ensures.block) (c.on_list.ensures.kept ∙ ap (λ q. length q.items) c.in-Statements.xs-is))
 
 pub returns-in-For-clause-calls : goal.returns-in-For-clause-calls
 returns-in-For-clause-calls g c =
@@ -28,7 +30,7 @@ returns-in-For-clause-calls g c =
 pub returns-in-For-clause-kept : goal.returns-in-For-clause-kept
 returns-in-For-clause-kept g c =
     let x = (stmt_fields (param 0 g.row.P) (param 1 g.row.P-LoadPayload) (param 2 g.row.P-IdentPayload) (param 3 g.row.P-IdentAssignPayload) (param 4 g.row.P-DefPayload) (param 5 g.row.P-TypeExprPayload) 10 (c.in-For.x, tt) c.args.whole.now).0 in
-    stmt_lent (param 0 g.row.P) (param 1 g.row.P-LoadPayload) (param 2 g.row.P-IdentPayload) (param 3 g.row.P-IdentAssignPayload) (param 4 g.row.P-DefPayload) (param 5 g.row.P-TypeExprPayload) 10 (λ y v. stmt.For y) KeepsHead (with_for_body x c.on_boxed.new.x) (c.in-For.x, tt) c.in-For.is (beside.head_repeat _ _ (seen_left KeepsForHead c.in-For.x-is (for_head_kept x c.on_boxed.new.x)))
+    stmt_lent (param 0 g.row.P) (param 1 g.row.P-LoadPayload) (param 2 g.row.P-IdentPayload) (param 3 g.row.P-IdentAssignPayload) (param 4 g.row.P-DefPayload) (param 5 g.row.P-TypeExprPayload) 10 (λ y v. stmt.For y) KeepsHead (with_for_body x c.on_boxed.new.x) (c.in-For.x, tt) c.in-For.is (beside.head_repeat _ _ (seen_left KeepsForHead c.in-For.x-is (for_head_kept x c.on_boxed.new.x c.on_boxed.ensures.block)))
 
 pub returns-in-Def-clause-calls : goal.returns-in-Def-clause-calls
 returns-in-Def-clause-calls g c =
@@ -39,7 +41,7 @@ returns-in-Def-clause-calls g c =
 pub returns-in-Def-clause-kept : goal.returns-in-Def-clause-kept
 returns-in-Def-clause-kept g c =
     let x = (stmt_fields (param 0 g.row.P) (param 1 g.row.P-LoadPayload) (param 2 g.row.P-IdentPayload) (param 3 g.row.P-IdentAssignPayload) (param 4 g.row.P-DefPayload) (param 5 g.row.P-TypeExprPayload) 11 (c.in-Def.x, tt) c.args.whole.now).0 in
-    stmt_lent (param 0 g.row.P) (param 1 g.row.P-LoadPayload) (param 2 g.row.P-IdentPayload) (param 3 g.row.P-IdentAssignPayload) (param 4 g.row.P-DefPayload) (param 5 g.row.P-TypeExprPayload) 11 (λ y v. stmt.Def y) KeepsHead (with_def_body x c.on_boxed-in-Def.new.x) (c.in-Def.x, tt) c.in-Def.is (beside.head_define _ _ (seen_left KeepsDefHead c.in-Def.x-is (def_head_kept x c.on_boxed-in-Def.new.x)))
+    stmt_lent (param 0 g.row.P) (param 1 g.row.P-LoadPayload) (param 2 g.row.P-IdentPayload) (param 3 g.row.P-IdentAssignPayload) (param 4 g.row.P-DefPayload) (param 5 g.row.P-TypeExprPayload) 11 (λ y v. stmt.Def y) KeepsHead (with_def_body x c.on_boxed-in-Def.new.x) (c.in-Def.x, tt) c.in-Def.is (beside.head_define _ _ (seen_left KeepsDefHead c.in-Def.x-is (def_head_kept x c.on_boxed-in-Def.new.x c.on_boxed-in-Def.ensures.block)))
 
 pub returns-in-If-clause-calls : goal.returns-in-If-clause-calls
 returns-in-If-clause-calls g c =
@@ -47,7 +49,7 @@ returns-in-If-clause-calls g c =
 
 pub returns-in-If-clause-kept : goal.returns-in-If-clause-kept
 returns-in-If-clause-kept g c =
-    seen KeepsHead c.in-If.is (subst (λ q. KeepsHead (stmt.If c.in-If.c c.in-If.x) (stmt.If q c.on_beside.new.x)) (sym (c.on_beside.ensures.kept ∙ c.in-If.c-is)) (beside.head_condition _ _ _))
+    seen KeepsHead c.in-If.is (subst (λ q. KeepsHead (stmt.If c.in-If.c c.in-If.x) (stmt.If q c.on_beside.new.x)) (sym (c.on_beside.ensures.kept ∙ c.in-If.c-is)) (beside.head_condition _ _ _ (seen_left SameBox {u = c.on_beside.new.x} c.in-If.x-is c.on_beside.ensures.block)))
 
 pub returns-in-IfElse-clause-calls : goal.returns-in-IfElse-clause-calls
 returns-in-IfElse-clause-calls g c =
@@ -55,7 +57,7 @@ returns-in-IfElse-clause-calls g c =
 
 pub returns-in-IfElse-clause-kept : goal.returns-in-IfElse-clause-kept
 returns-in-IfElse-clause-kept g c =
-    seen KeepsHead c.in-IfElse.is (subst (λ q. KeepsHead (stmt.IfElse c.in-IfElse.c c.in-IfElse.x) (stmt.IfElse q c.on_pair_beside.new.x)) (sym (c.on_pair_beside.ensures.kept ∙ c.in-IfElse.c-is)) (beside.head_choice _ _ _))
+    seen KeepsHead c.in-IfElse.is (subst (λ q. KeepsHead (stmt.IfElse c.in-IfElse.c c.in-IfElse.x) (stmt.IfElse q c.on_pair_beside.new.x)) (sym (c.on_pair_beside.ensures.kept ∙ c.in-IfElse.c-is)) (beside.head_choice _ _ _ (seen_left SameBox {u = c.on_pair_beside.new.x} c.in-IfElse.x-is c.on_pair_beside.ensures.block)))
 
 pub returns-in-Return-clause-calls : goal.returns-in-Return-clause-calls
 returns-in-Return-clause-calls g c =

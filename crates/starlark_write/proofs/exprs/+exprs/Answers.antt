@@ -1,18 +1,19 @@
 use Rattle.std.proofs.Common.{rules, of_calls, arith, ◌≡◌, ◌<◌, ◌+◌, refl, sym, ap, ◌∙◌, subst, ◌++◌, append_assoc, flat_map, length, drop}
 use Rattle.std.specs.List.{sum_by}
 use denote.Param.{param}
+use Rattle.std.specs.Vec.{SameBlock}
 use Rattle.starlark_ast.specs.Access.{argument_expr}
 use Rattle.starlark_ast.specs.declared.ast.AssignTargetP.TheVariants as target
 use Rattle.starlark_ast.specs.declared.ast.ClauseP.TheVariants as clause
 use Rattle.starlark_ast.specs.declared.ast.ExprP.TheVariants as expr
 use Rattle.starlark_ast.specs.declared.ast.ParameterP.TheVariants as parameter
-use Rattle.starlark_write.specs.Beside.{AtPlace, KeepsArgument}
+use Rattle.starlark_write.specs.Beside.{AtPlace, KeepsArgument, SameBox}
 use Rattle.starlark_write.specs.BesideTypes as kept
 use Rattle.starlark_write.specs.BesideTypes.{KeepsAll, KeepsArguments, KeepsClauseTypes, KeepsClauses, KeepsDefault, KeepsDefaults, KeepsFor, KeepsLambda, KeepsMaybe, KeepsPairs, KeepsTargetTypes, KeepsTargetsTypes, KeepsTypes}
 use Rattle.starlark_write.specs.TypePlaces.{argument_types, clause_types, default_types, expr_types, for_clause_types, lambda_types, maybe_expr_types, own_type, target_types}
 use Rattle.starlark_write.specs.Writing.{WritesUntil}
 use Rattle.starlark_write.proofs.KeptParts.{argument_kept, expr_of_with}
-use Rattle.starlark_write.proofs.KeptTypes.{KeepsPair, all_back, argument_nodes_of, argument_types_of, arguments_back, clauses_back, defaults_back, fewer, maybe_same, pairs_back, same_default_nodes, same_defaults, same_own, targets_back}
+use Rattle.starlark_write.proofs.KeptTypes.{KeepsPair, all_back, argument_nodes_of, argument_types_of, arguments_back, blocks_then, clauses_back, defaults_back, fewer, maybe_same, pairs_back, same_default_nodes, same_defaults, same_own, targets_back}
 use Rattle.starlark_write.proofs.Lent.{both, expr_lent, seen, seen_left, target_lent}
 use Rattle.starlark_write.proofs.Loops as loops
 use Rattle.starlark_write.proofs.Loops.{both_more, end_in, front_more, lengths_more, stop_in, take_back, whole, writes_more, writes_stop_here}
@@ -30,7 +31,7 @@ pub expr-returns-in-Tuple-clause-kept : goal.expr-returns-in-Tuple-clause-kept
 expr-returns-in-Tuple-clause-kept g t c =
     let s = c.args.x.now.span in
     expr_lent (param 0 g.row.P) (param 3 g.row.P-LoadPayload) (param 4 g.row.P-IdentPayload) (param 5 g.row.P-IdentAssignPayload) (param 6 g.row.P-DefPayload) (param 7 g.row.P-TypeExprPayload) 0 (λ y v. expr.Tuple y) (λ a b. KeepsTypes (record { span = s; node = a }) (record { span = s; node = b })) c.list.new.xs (c.in-Tuple.xs, tt) c.in-Tuple.is
-    (kept.tuple s _ _ (seen_left (λ a b. KeepsAll a.items b) c.in-Tuple.xs-is c.list.ensures.kept))
+    (kept.tuple s _ _ (seen_left SameBlock {u = c.list.new.xs} c.in-Tuple.xs-is c.list.ensures.block) (seen_left (λ a b. KeepsAll a.items b) c.in-Tuple.xs-is c.list.ensures.kept))
 
 pub expr-returns-in-Index-clause-calls : goal.expr-returns-in-Index-clause-calls
 expr-returns-in-Index-clause-calls g t c =
@@ -41,7 +42,7 @@ pub expr-returns-in-Index-clause-kept : goal.expr-returns-in-Index-clause-kept
 expr-returns-in-Index-clause-kept g t c =
     let s = c.args.x.now.span in
     expr_lent (param 0 g.row.P) (param 3 g.row.P-LoadPayload) (param 4 g.row.P-IdentPayload) (param 5 g.row.P-IdentAssignPayload) (param 6 g.row.P-DefPayload) (param 7 g.row.P-TypeExprPayload) 3 (λ y v. expr.Index y) (λ a b. KeepsTypes (record { span = s; node = a }) (record { span = s; node = b })) c.pair.new.x (c.in-Index.x, tt) c.in-Index.is
-    (kept.index s _ _ (seen_left (λ a b. KeepsTypes a.value.0 b) c.in-Index.x-is c.pair.ensures.first) (seen_left (λ a b. KeepsTypes a.value.1 b) c.in-Index.x-is c.pair.ensures.second))
+    (kept.index s _ _ (seen_left SameBox {u = c.pair.new.x} c.in-Index.x-is c.pair.ensures.block) (seen_left (λ a b. KeepsTypes a.value.0 b) c.in-Index.x-is c.pair.ensures.first) (seen_left (λ a b. KeepsTypes a.value.1 b) c.in-Index.x-is c.pair.ensures.second))
 
 pub expr-returns-in-Index2-clause-calls : goal.expr-returns-in-Index2-clause-calls
 expr-returns-in-Index2-clause-calls g t c =
@@ -52,7 +53,7 @@ pub expr-returns-in-Index2-clause-kept : goal.expr-returns-in-Index2-clause-kept
 expr-returns-in-Index2-clause-kept g t c =
     let s = c.args.x.now.span in
     expr_lent (param 0 g.row.P) (param 3 g.row.P-LoadPayload) (param 4 g.row.P-IdentPayload) (param 5 g.row.P-IdentAssignPayload) (param 6 g.row.P-DefPayload) (param 7 g.row.P-TypeExprPayload) 4 (λ y v. expr.Index2 y) (λ a b. KeepsTypes (record { span = s; node = a }) (record { span = s; node = b })) c.triple.new.x (c.in-Index2.x, tt) c.in-Index2.is
-    (kept.index2 s _ _ (seen_left (λ a b. KeepsTypes a.value.0 b) c.in-Index2.x-is c.triple.ensures.first) (seen_left (λ a b. KeepsTypes a.value.1 b) c.in-Index2.x-is c.triple.ensures.second) (seen_left (λ a b. KeepsTypes a.value.2 b) c.in-Index2.x-is c.triple.ensures.third))
+    (kept.index2 s _ _ (seen_left SameBox {u = c.triple.new.x} c.in-Index2.x-is c.triple.ensures.block) (seen_left (λ a b. KeepsTypes a.value.0 b) c.in-Index2.x-is c.triple.ensures.first) (seen_left (λ a b. KeepsTypes a.value.1 b) c.in-Index2.x-is c.triple.ensures.second) (seen_left (λ a b. KeepsTypes a.value.2 b) c.in-Index2.x-is c.triple.ensures.third))
 
 pub expr-returns-in-Lambda-clause-calls : goal.expr-returns-in-Lambda-clause-calls
 expr-returns-in-Lambda-clause-calls g t c =
@@ -74,7 +75,7 @@ pub expr-returns-in-Not-clause-kept : goal.expr-returns-in-Not-clause-kept
 expr-returns-in-Not-clause-kept g t c =
     let s = c.args.x.now.span in
     expr_lent (param 0 g.row.P) (param 3 g.row.P-LoadPayload) (param 4 g.row.P-IdentPayload) (param 5 g.row.P-IdentAssignPayload) (param 6 g.row.P-DefPayload) (param 7 g.row.P-TypeExprPayload) 9 (λ y v. expr.Not y) (λ a b. KeepsTypes (record { span = s; node = a }) (record { span = s; node = b })) c.boxed.new.x (c.in-Not.x, tt) c.in-Not.is
-    (kept.not s _ _ (seen_left (λ a b. KeepsTypes a.value b) c.in-Not.x-is c.boxed.ensures.kept))
+    (kept.not s _ _ (seen_left SameBox {u = c.boxed.new.x} c.in-Not.x-is c.boxed.ensures.block) (seen_left (λ a b. KeepsTypes a.value b) c.in-Not.x-is c.boxed.ensures.kept))
 
 pub expr-returns-in-Minus-clause-calls : goal.expr-returns-in-Minus-clause-calls
 expr-returns-in-Minus-clause-calls g t c =
@@ -85,7 +86,7 @@ pub expr-returns-in-Minus-clause-kept : goal.expr-returns-in-Minus-clause-kept
 expr-returns-in-Minus-clause-kept g t c =
     let s = c.args.x.now.span in
     expr_lent (param 0 g.row.P) (param 3 g.row.P-LoadPayload) (param 4 g.row.P-IdentPayload) (param 5 g.row.P-IdentAssignPayload) (param 6 g.row.P-DefPayload) (param 7 g.row.P-TypeExprPayload) 10 (λ y v. expr.Minus y) (λ a b. KeepsTypes (record { span = s; node = a }) (record { span = s; node = b })) c.boxed-in-Minus.new.x (c.in-Minus.x, tt) c.in-Minus.is
-    (kept.minus s _ _ (seen_left (λ a b. KeepsTypes a.value b) c.in-Minus.x-is c.boxed-in-Minus.ensures.kept))
+    (kept.minus s _ _ (seen_left SameBox {u = c.boxed-in-Minus.new.x} c.in-Minus.x-is c.boxed-in-Minus.ensures.block) (seen_left (λ a b. KeepsTypes a.value b) c.in-Minus.x-is c.boxed-in-Minus.ensures.kept))
 
 pub expr-returns-in-Plus-clause-calls : goal.expr-returns-in-Plus-clause-calls
 expr-returns-in-Plus-clause-calls g t c =
@@ -96,7 +97,7 @@ pub expr-returns-in-Plus-clause-kept : goal.expr-returns-in-Plus-clause-kept
 expr-returns-in-Plus-clause-kept g t c =
     let s = c.args.x.now.span in
     expr_lent (param 0 g.row.P) (param 3 g.row.P-LoadPayload) (param 4 g.row.P-IdentPayload) (param 5 g.row.P-IdentAssignPayload) (param 6 g.row.P-DefPayload) (param 7 g.row.P-TypeExprPayload) 11 (λ y v. expr.Plus y) (λ a b. KeepsTypes (record { span = s; node = a }) (record { span = s; node = b })) c.boxed-in-Plus.new.x (c.in-Plus.x, tt) c.in-Plus.is
-    (kept.plus s _ _ (seen_left (λ a b. KeepsTypes a.value b) c.in-Plus.x-is c.boxed-in-Plus.ensures.kept))
+    (kept.plus s _ _ (seen_left SameBox {u = c.boxed-in-Plus.new.x} c.in-Plus.x-is c.boxed-in-Plus.ensures.block) (seen_left (λ a b. KeepsTypes a.value b) c.in-Plus.x-is c.boxed-in-Plus.ensures.kept))
 
 pub expr-returns-in-BitNot-clause-calls : goal.expr-returns-in-BitNot-clause-calls
 expr-returns-in-BitNot-clause-calls g t c =
@@ -107,7 +108,7 @@ pub expr-returns-in-BitNot-clause-kept : goal.expr-returns-in-BitNot-clause-kept
 expr-returns-in-BitNot-clause-kept g t c =
     let s = c.args.x.now.span in
     expr_lent (param 0 g.row.P) (param 3 g.row.P-LoadPayload) (param 4 g.row.P-IdentPayload) (param 5 g.row.P-IdentAssignPayload) (param 6 g.row.P-DefPayload) (param 7 g.row.P-TypeExprPayload) 12 (λ y v. expr.BitNot y) (λ a b. KeepsTypes (record { span = s; node = a }) (record { span = s; node = b })) c.boxed-in-BitNot.new.x (c.in-BitNot.x, tt) c.in-BitNot.is
-    (kept.bit_not s _ _ (seen_left (λ a b. KeepsTypes a.value b) c.in-BitNot.x-is c.boxed-in-BitNot.ensures.kept))
+    (kept.bit_not s _ _ (seen_left SameBox {u = c.boxed-in-BitNot.new.x} c.in-BitNot.x-is c.boxed-in-BitNot.ensures.block) (seen_left (λ a b. KeepsTypes a.value b) c.in-BitNot.x-is c.boxed-in-BitNot.ensures.kept))
 
 pub expr-returns-in-If-clause-calls : goal.expr-returns-in-If-clause-calls
 expr-returns-in-If-clause-calls g t c =
@@ -118,7 +119,7 @@ pub expr-returns-in-If-clause-kept : goal.expr-returns-in-If-clause-kept
 expr-returns-in-If-clause-kept g t c =
     let s = c.args.x.now.span in
     expr_lent (param 0 g.row.P) (param 3 g.row.P-LoadPayload) (param 4 g.row.P-IdentPayload) (param 5 g.row.P-IdentAssignPayload) (param 6 g.row.P-DefPayload) (param 7 g.row.P-TypeExprPayload) 14 (λ y v. expr.If y) (λ a b. KeepsTypes (record { span = s; node = a }) (record { span = s; node = b })) c.triple-in-If.new.x (c.in-If.x, tt) c.in-If.is
-    (kept.choice s _ _ (seen_left (λ a b. KeepsTypes a.value.0 b) c.in-If.x-is c.triple-in-If.ensures.first) (seen_left (λ a b. KeepsTypes a.value.1 b) c.in-If.x-is c.triple-in-If.ensures.second) (seen_left (λ a b. KeepsTypes a.value.2 b) c.in-If.x-is c.triple-in-If.ensures.third))
+    (kept.choice s _ _ (seen_left SameBox {u = c.triple-in-If.new.x} c.in-If.x-is c.triple-in-If.ensures.block) (seen_left (λ a b. KeepsTypes a.value.0 b) c.in-If.x-is c.triple-in-If.ensures.first) (seen_left (λ a b. KeepsTypes a.value.1 b) c.in-If.x-is c.triple-in-If.ensures.second) (seen_left (λ a b. KeepsTypes a.value.2 b) c.in-If.x-is c.triple-in-If.ensures.third))
 
 pub expr-returns-in-List-clause-calls : goal.expr-returns-in-List-clause-calls
 expr-returns-in-List-clause-calls g t c =
@@ -129,7 +130,7 @@ pub expr-returns-in-List-clause-kept : goal.expr-returns-in-List-clause-kept
 expr-returns-in-List-clause-kept g t c =
     let s = c.args.x.now.span in
     expr_lent (param 0 g.row.P) (param 3 g.row.P-LoadPayload) (param 4 g.row.P-IdentPayload) (param 5 g.row.P-IdentAssignPayload) (param 6 g.row.P-DefPayload) (param 7 g.row.P-TypeExprPayload) 15 (λ y v. expr.List y) (λ a b. KeepsTypes (record { span = s; node = a }) (record { span = s; node = b })) c.list-in-List.new.xs (c.in-List.xs, tt) c.in-List.is
-    (kept.list s _ _ (seen_left (λ a b. KeepsAll a.items b) c.in-List.xs-is c.list-in-List.ensures.kept))
+    (kept.list s _ _ (seen_left SameBlock {u = c.list-in-List.new.xs} c.in-List.xs-is c.list-in-List.ensures.block) (seen_left (λ a b. KeepsAll a.items b) c.in-List.xs-is c.list-in-List.ensures.kept))
 
 pub expr-returns-in-Dict-clause-calls : goal.expr-returns-in-Dict-clause-calls
 expr-returns-in-Dict-clause-calls g t c =
@@ -140,7 +141,7 @@ pub expr-returns-in-Dict-clause-kept : goal.expr-returns-in-Dict-clause-kept
 expr-returns-in-Dict-clause-kept g t c =
     let s = c.args.x.now.span in
     expr_lent (param 0 g.row.P) (param 3 g.row.P-LoadPayload) (param 4 g.row.P-IdentPayload) (param 5 g.row.P-IdentAssignPayload) (param 6 g.row.P-DefPayload) (param 7 g.row.P-TypeExprPayload) 16 (λ y v. expr.Dict y) (λ a b. KeepsTypes (record { span = s; node = a }) (record { span = s; node = b })) c.dict.new.xs (c.in-Dict.xs, tt) c.in-Dict.is
-    (kept.dict s _ _ (seen_left (λ a b. KeepsPairs a.items b) c.in-Dict.xs-is c.dict.ensures.kept))
+    (kept.dict s _ _ (seen_left SameBlock {u = c.dict.new.xs} c.in-Dict.xs-is c.dict.ensures.block) (seen_left (λ a b. KeepsPairs a.items b) c.in-Dict.xs-is c.dict.ensures.kept))
 
 pub expr-returns-in-FString-clause-calls : goal.expr-returns-in-FString-clause-calls
 expr-returns-in-FString-clause-calls g t c =
@@ -151,7 +152,7 @@ pub expr-returns-in-FString-clause-kept : goal.expr-returns-in-FString-clause-ke
 expr-returns-in-FString-clause-kept g t c =
     let s = c.args.x.now.span in
     expr_lent (param 0 g.row.P) (param 3 g.row.P-LoadPayload) (param 4 g.row.P-IdentPayload) (param 5 g.row.P-IdentAssignPayload) (param 6 g.row.P-DefPayload) (param 7 g.row.P-TypeExprPayload) 19 (λ y v. expr.FString y) (λ a b. KeepsTypes (record { span = s; node = a }) (record { span = s; node = b })) c.fstring.new.x (c.in-FString.x, tt) c.in-FString.is
-    (kept.fstring s _ _ (c.fstring.ensures.span ∙ ap (λ q. q.span) c.in-FString.x-is) (c.fstring.ensures.format ∙ ap (λ q. q.node.format) c.in-FString.x-is) (seen_left (λ a b. KeepsAll a.node.expressions.items b) c.in-FString.x-is c.fstring.ensures.kept))
+    (kept.fstring s _ _ (c.fstring.ensures.span ∙ ap (λ q. q.span) c.in-FString.x-is) (c.fstring.ensures.format ∙ ap (λ q. q.node.format) c.in-FString.x-is) (seen_left (λ a b. SameBlock a.node.expressions b) {u = c.fstring.new.x.node.expressions} c.in-FString.x-is c.fstring.ensures.block) (seen_left (λ a b. KeepsAll a.node.expressions.items b) c.in-FString.x-is c.fstring.ensures.kept))
 
 pub expr-returns-in-Identifier-clause-calls : goal.expr-returns-in-Identifier-clause-calls
 expr-returns-in-Identifier-clause-calls g t c =
@@ -181,7 +182,7 @@ expr-returns-in-Dot-clause-kept g t c =
     let arm = c.in-Dot in
     let call = c.named in
     seen (λ a b. KeepsTypes (record { span = s; node = a }) b) arm.is
-    (subst (λ q. KeepsTypes (record { span = s; node = expr.Dot arm.x arm.name }) (record { span = s; node = expr.Dot call.new.x q })) (sym (call.ensures.name ∙ arm.name-is)) (kept.dot s _ _ _ (seen_left (λ a b. KeepsTypes a.value b) arm.x-is call.ensures.kept)))
+    (subst (λ q. KeepsTypes (record { span = s; node = expr.Dot arm.x arm.name }) (record { span = s; node = expr.Dot call.new.x q })) (sym (call.ensures.name ∙ arm.name-is)) (kept.dot s _ _ _ (seen_left SameBox {u = call.new.x} arm.x-is call.ensures.block) (seen_left (λ a b. KeepsTypes a.value b) arm.x-is call.ensures.kept)))
 
 pub expr-returns-in-Call-clause-calls : goal.expr-returns-in-Call-clause-calls
 expr-returns-in-Call-clause-calls g t c =
@@ -193,7 +194,7 @@ expr-returns-in-Call-clause-kept g t c =
     let arm = c.in-Call in
     let call = c.call in
     seen (λ a b. KeepsTypes (record { span = s; node = a }) b) arm.is
-    (kept.call s _ _ _ _ (seen_left (λ a b. KeepsTypes a.value b) arm.x-is call.ensures.kept) (seen_left (λ a b. KeepsArguments a.args.items b) arm.args-is call.ensures.arguments))
+    (kept.call s _ _ _ _ (seen_left SameBox {u = call.new.x} arm.x-is call.ensures.block) (seen_left (λ a b. SameBlock a.args b) {u = call.new.args.args} arm.args-is call.ensures.arguments_block) (seen_left (λ a b. KeepsTypes a.value b) arm.x-is call.ensures.kept) (seen_left (λ a b. KeepsArguments a.args.items b) arm.args-is call.ensures.arguments))
 
 pub expr-returns-in-Slice-clause-calls : goal.expr-returns-in-Slice-clause-calls
 expr-returns-in-Slice-clause-calls g t c =
@@ -205,7 +206,7 @@ expr-returns-in-Slice-clause-kept g t c =
     let arm = c.in-Slice in
     let call = c.slice in
     seen (λ a b. KeepsTypes (record { span = s; node = a }) b) arm.is
-    (kept.slice s _ _ _ _ _ _ _ _ (seen_left (λ a b. KeepsTypes a.value b) arm.x-is call.ensures.kept) (seen_left KeepsMaybe arm.a-is call.ensures.first) (seen_left KeepsMaybe arm.b-is call.ensures.second) (seen_left KeepsMaybe arm.c-is call.ensures.third))
+    (kept.slice s _ _ _ _ _ _ _ _ (seen_left SameBox {u = call.new.x} arm.x-is call.ensures.block) (seen_left (λ a b. KeepsTypes a.value b) arm.x-is call.ensures.kept) (seen_left KeepsMaybe arm.a-is call.ensures.first) (seen_left KeepsMaybe arm.b-is call.ensures.second) (seen_left KeepsMaybe arm.c-is call.ensures.third))
 
 pub expr-returns-in-Op-clause-calls : goal.expr-returns-in-Op-clause-calls
 expr-returns-in-Op-clause-calls g t c =
@@ -217,7 +218,7 @@ expr-returns-in-Op-clause-kept g t c =
     let arm = c.in-Op in
     let call = c.operation in
     seen (λ a b. KeepsTypes (record { span = s; node = a }) b) arm.is
-    (subst (λ q. KeepsTypes (record { span = s; node = expr.Op arm.x arm.op arm.y }) (record { span = s; node = expr.Op call.new.x q call.new.y })) (sym (call.ensures.op ∙ arm.op-is)) (kept.op s _ _ _ _ _ (seen_left (λ a b. KeepsTypes a.value b) arm.x-is call.ensures.first) (seen_left (λ a b. KeepsTypes a.value b) arm.y-is call.ensures.second)))
+    (subst (λ q. KeepsTypes (record { span = s; node = expr.Op arm.x arm.op arm.y }) (record { span = s; node = expr.Op call.new.x q call.new.y })) (sym (call.ensures.op ∙ arm.op-is)) (kept.op s _ _ _ _ _ (seen_left SameBox {u = call.new.x} arm.x-is call.ensures.first_block) (seen_left SameBox {u = call.new.y} arm.y-is call.ensures.second_block) (seen_left (λ a b. KeepsTypes a.value b) arm.x-is call.ensures.first) (seen_left (λ a b. KeepsTypes a.value b) arm.y-is call.ensures.second)))
 
 pub expr-returns-in-ListComprehension-clause-calls : goal.expr-returns-in-ListComprehension-clause-calls
 expr-returns-in-ListComprehension-clause-calls g t c =
@@ -229,7 +230,7 @@ expr-returns-in-ListComprehension-clause-kept g t c =
     let arm = c.in-ListComprehension in
     let call = c.listed in
     seen (λ a b. KeepsTypes (record { span = s; node = a }) b) arm.is
-    (kept.list_comprehension s _ _ _ _ _ _ (seen_left (λ a b. KeepsFor a.value b) arm.first-is call.ensures.first) (seen_left (λ a b. KeepsClauses a.items b) arm.rest-is call.ensures.rest) (seen_left (λ a b. KeepsTypes a.value b) arm.x-is call.ensures.kept))
+    (kept.list_comprehension s _ _ _ _ _ _ (seen_left SameBox {u = call.new.x} arm.x-is call.ensures.block) (seen_left SameBox {u = call.new.first} arm.first-is call.ensures.first_block) (seen_left SameBlock {u = call.new.rest} arm.rest-is call.ensures.rest_block) (seen_left (λ a b. KeepsFor a.value b) arm.first-is call.ensures.first) (seen_left (λ a b. KeepsClauses a.items b) arm.rest-is call.ensures.rest) (seen_left (λ a b. KeepsTypes a.value b) arm.x-is call.ensures.kept))
 
 pub expr-returns-in-DictComprehension-clause-calls : goal.expr-returns-in-DictComprehension-clause-calls
 expr-returns-in-DictComprehension-clause-calls g t c =
@@ -241,7 +242,7 @@ expr-returns-in-DictComprehension-clause-kept g t c =
     let arm = c.in-DictComprehension in
     let call = c.mapped in
     seen (λ a b. KeepsTypes (record { span = s; node = a }) b) arm.is
-    (kept.dict_comprehension s _ _ _ _ _ _ (seen_left (λ a b. KeepsFor a.value b) arm.first-is call.ensures.first) (seen_left (λ a b. KeepsClauses a.items b) arm.rest-is call.ensures.rest) (seen_left (λ a b. KeepsTypes a.value.0 b) arm.x-is call.ensures.key) (seen_left (λ a b. KeepsTypes a.value.1 b) arm.x-is call.ensures.kept))
+    (kept.dict_comprehension s _ _ _ _ _ _ (seen_left SameBox {u = call.new.x} arm.x-is call.ensures.block) (seen_left SameBox {u = call.new.first} arm.first-is call.ensures.first_block) (seen_left SameBlock {u = call.new.rest} arm.rest-is call.ensures.rest_block) (seen_left (λ a b. KeepsFor a.value b) arm.first-is call.ensures.first) (seen_left (λ a b. KeepsClauses a.items b) arm.rest-is call.ensures.rest) (seen_left (λ a b. KeepsTypes a.value.0 b) arm.x-is call.ensures.key) (seen_left (λ a b. KeepsTypes a.value.1 b) arm.x-is call.ensures.kept))
 
 pub target-returns-in-Tuple-clause-calls : goal.target-returns-in-Tuple-clause-calls
 target-returns-in-Tuple-clause-calls g t c =
@@ -252,7 +253,7 @@ pub target-returns-in-Tuple-clause-kept : goal.target-returns-in-Tuple-clause-ke
 target-returns-in-Tuple-clause-kept g t c =
     let s = c.args.x.now.span in
     target_lent (param 0 g.row.P) (param 3 g.row.P-LoadPayload) (param 4 g.row.P-IdentPayload) (param 5 g.row.P-IdentAssignPayload) (param 6 g.row.P-DefPayload) (param 7 g.row.P-TypeExprPayload) 0 (λ y v. target.Tuple y) (λ a b. KeepsTargetTypes (record { span = s; node = a }) (record { span = s; node = b })) c.targets.new.xs (c.in-Tuple.xs, tt) c.in-Tuple.is
-    (kept.target_tuple s _ _ (seen_left (λ a b. KeepsTargetsTypes a.items b) c.in-Tuple.xs-is c.targets.ensures.kept))
+    (kept.target_tuple s _ _ (seen_left SameBlock {u = c.targets.new.xs} c.in-Tuple.xs-is c.targets.ensures.block) (seen_left (λ a b. KeepsTargetsTypes a.items b) c.in-Tuple.xs-is c.targets.ensures.kept))
 
 pub target-returns-in-Index-clause-calls : goal.target-returns-in-Index-clause-calls
 target-returns-in-Index-clause-calls g t c =
@@ -263,7 +264,7 @@ pub target-returns-in-Index-clause-kept : goal.target-returns-in-Index-clause-ke
 target-returns-in-Index-clause-kept g t c =
     let s = c.args.x.now.span in
     target_lent (param 0 g.row.P) (param 3 g.row.P-LoadPayload) (param 4 g.row.P-IdentPayload) (param 5 g.row.P-IdentAssignPayload) (param 6 g.row.P-DefPayload) (param 7 g.row.P-TypeExprPayload) 1 (λ y v. target.Index y) (λ a b. KeepsTargetTypes (record { span = s; node = a }) (record { span = s; node = b })) c.pair.new.x (c.in-Index.x, tt) c.in-Index.is
-    (kept.target_index s _ _ (seen_left (λ a b. KeepsTypes a.value.0 b) c.in-Index.x-is c.pair.ensures.first) (seen_left (λ a b. KeepsTypes a.value.1 b) c.in-Index.x-is c.pair.ensures.second))
+    (kept.target_index s _ _ (seen_left SameBox {u = c.pair.new.x} c.in-Index.x-is c.pair.ensures.block) (seen_left (λ a b. KeepsTypes a.value.0 b) c.in-Index.x-is c.pair.ensures.first) (seen_left (λ a b. KeepsTypes a.value.1 b) c.in-Index.x-is c.pair.ensures.second))
 
 pub target-returns-in-Dot-clause-calls : goal.target-returns-in-Dot-clause-calls
 target-returns-in-Dot-clause-calls g t c =
@@ -275,7 +276,7 @@ target-returns-in-Dot-clause-kept g t c =
     let arm = c.in-Dot in
     let call = c.named in
     seen (λ a b. KeepsTargetTypes (record { span = s; node = a }) b) arm.is
-    (subst (λ q. KeepsTargetTypes (record { span = s; node = target.Dot arm.x arm.name }) (record { span = s; node = target.Dot call.new.x q })) (sym (call.ensures.name ∙ arm.name-is)) (kept.target_dot s _ _ _ (seen_left (λ a b. KeepsTypes a.value b) arm.x-is call.ensures.kept)))
+    (subst (λ q. KeepsTargetTypes (record { span = s; node = target.Dot arm.x arm.name }) (record { span = s; node = target.Dot call.new.x q })) (sym (call.ensures.name ∙ arm.name-is)) (kept.target_dot s _ _ _ (seen_left SameBox {u = call.new.x} arm.x-is call.ensures.block) (seen_left (λ a b. KeepsTypes a.value b) arm.x-is call.ensures.kept)))
 
 pub target-returns-in-Identifier-clause-calls : goal.target-returns-in-Identifier-clause-calls
 target-returns-in-Identifier-clause-calls g t c =
@@ -1027,7 +1028,7 @@ arguments-returns-clause-calls g t c =
 
 pub bound-returns-in-Some-clause-kept : goal.bound-returns-in-Some-clause-kept
 bound-returns-in-Some-clause-kept g t c =
-    seen KeepsMaybe c.in-Some.is (kept.present _ _ (seen_left (λ a b. KeepsTypes a.value b) c.in-Some.x-is c.boxed.ensures.kept))
+    seen KeepsMaybe c.in-Some.is (kept.present _ _ (seen_left SameBox {u = c.boxed.new.x} c.in-Some.x-is c.boxed.ensures.block) (seen_left (λ a b. KeepsTypes a.value b) c.in-Some.x-is c.boxed.ensures.kept))
 
 pub clauses-returns-clause-calls : goal.clauses-returns-clause-calls
 clauses-returns-clause-calls g t c =
@@ -1039,7 +1040,7 @@ lambda-returns-in-Err-clause-calls g t c =
 
 pub lambda-returns-in-Err-clause-kept : goal.lambda-returns-in-Err-clause-kept
 lambda-returns-in-Err-clause-kept g t c =
-    kept.lambda_parts _ _ c.own_types.new.xs.items c.own_types.ensures.kept (kept.defaults_rest _) (kept.same _) refl
+    kept.lambda_parts _ _ c.own_types.new.xs.items c.own_types.ensures.block c.own_types.ensures.kept (kept.defaults_rest _) refl (kept.same _) refl
 
 pub lambda-returns-in-Err-defaults-clause-calls : goal.lambda-returns-in-Err-defaults-clause-calls
 lambda-returns-in-Err-defaults-clause-calls g t c =
@@ -1047,7 +1048,7 @@ lambda-returns-in-Err-defaults-clause-calls g t c =
 
 pub lambda-returns-in-Err-defaults-clause-kept : goal.lambda-returns-in-Err-defaults-clause-kept
 lambda-returns-in-Err-defaults-clause-kept g t c =
-    kept.lambda_parts _ _ c.own_types.new.xs.items c.own_types.ensures.kept c.defaults.ensures.kept (kept.same _) refl
+    kept.lambda_parts _ _ c.own_types.new.xs.items (blocks_then c.args.x.now.params c.own_types.new.xs c.defaults.new.xs c.own_types.ensures.block c.defaults.ensures.block) c.own_types.ensures.kept c.defaults.ensures.kept refl (kept.same _) refl
 
 pub lambda-returns-clause-calls : goal.lambda-returns-clause-calls
 lambda-returns-clause-calls g t c =
@@ -1055,4 +1056,4 @@ lambda-returns-clause-calls g t c =
 
 pub lambda-returns-clause-kept : goal.lambda-returns-clause-kept
 lambda-returns-clause-kept g t c =
-    kept.lambda_parts _ _ c.own_types.new.xs.items c.own_types.ensures.kept c.defaults.ensures.kept c.boxed.ensures.kept refl
+    kept.lambda_parts _ _ c.own_types.new.xs.items (blocks_then c.args.x.now.params c.own_types.new.xs c.defaults.new.xs c.own_types.ensures.block c.defaults.ensures.block) c.own_types.ensures.kept c.defaults.ensures.kept c.boxed.ensures.block c.boxed.ensures.kept refl

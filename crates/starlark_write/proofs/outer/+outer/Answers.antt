@@ -3,9 +3,11 @@ use Rattle.std.proofs.lemmas.List.Sums.{get_or-le-sum_by}
 use Rattle.std.specs.List.{sum_by}
 use Rattle.starlark_ast.proofs.Tops.{count}
 use denote.Param.{param}
+use Rattle.std.specs.Vec.{SameBlock}
 use Rattle.starlark_ast.specs.Statements.{exprs_below, inner_exprs, outer_exprs, stmts_below, stmts_layer}
 use Rattle.starlark_ast.specs.declared.ast.StmtP.TheVariants as stmt
 use Rattle.starlark_write.specs.Beside.{AtPlace}
+use Rattle.starlark_write.specs.Beside.{SameBox}
 use Rattle.starlark_write.specs.BesideStatements as beside
 use Rattle.starlark_write.specs.BesideStatements.{KeepsDefHead, KeepsForHead, KeepsHead, KeepsOuter, KeepsOuters, def_body, for_body}
 use Rattle.starlark_write.specs.Writing.{WritesUntil}
@@ -42,7 +44,7 @@ inner-returns-in-Statements-clause-calls g t c =
 
 pub inner-returns-in-Statements-clause-kept : goal.inner-returns-in-Statements-clause-kept
 inner-returns-in-Statements-clause-kept g t c =
-    stmt_lent (param 0 g.row.P) (param 3 g.row.P-LoadPayload) (param 4 g.row.P-IdentPayload) (param 5 g.row.P-IdentAssignPayload) (param 6 g.row.P-DefPayload) (param 7 g.row.P-TypeExprPayload) 7 (λ y v. stmt.Statements y) KeepsHead c.in_list.new.xs (c.in-Statements.xs, tt) c.in-Statements.is (beside.head_statements _ _ (outers_length c.in_list.ensures.kept ∙ ap (λ q. length q.items) c.in-Statements.xs-is))
+    stmt_lent (param 0 g.row.P) (param 3 g.row.P-LoadPayload) (param 4 g.row.P-IdentPayload) (param 5 g.row.P-IdentAssignPayload) (param 6 g.row.P-DefPayload) (param 7 g.row.P-TypeExprPayload) 7 (λ y v. stmt.Statements y) KeepsHead c.in_list.new.xs (c.in-Statements.xs, tt) c.in-Statements.is (beside.head_statements _ _ (seen_left SameBlock {u = c.in_list.new.xs} c.in-Statements.xs-is c.in_list.ensures.block) (outers_length c.in_list.ensures.kept ∙ ap (λ q. length q.items) c.in-Statements.xs-is))
 
 pub inner-returns-in-Statements-clause-below : goal.inner-returns-in-Statements-clause-below
 inner-returns-in-Statements-clause-below g t c =
@@ -83,7 +85,7 @@ inner-returns-in-If-clause-calls g t c =
 
 pub inner-returns-in-If-clause-kept : goal.inner-returns-in-If-clause-kept
 inner-returns-in-If-clause-kept g t c =
-    seen KeepsHead c.in-If.is (subst (λ q. KeepsHead (stmt.If c.in-If.c c.in-If.x) (stmt.If q c.in_box_beside.new.x)) (sym (c.in_box_beside.ensures.other ∙ c.in-If.c-is)) (beside.head_condition _ _ _))
+    seen KeepsHead c.in-If.is (subst (λ q. KeepsHead (stmt.If c.in-If.c c.in-If.x) (stmt.If q c.in_box_beside.new.x)) (sym (c.in_box_beside.ensures.other ∙ c.in-If.c-is)) (beside.head_condition _ _ _ (seen_left SameBox {u = c.in_box_beside.new.x} c.in-If.x-is c.in_box_beside.ensures.block)))
 
 pub inner-returns-in-If-clause-below : goal.inner-returns-in-If-clause-below
 inner-returns-in-If-clause-below g t c =
@@ -95,7 +97,7 @@ inner-returns-in-IfElse-clause-calls g t c =
 
 pub inner-returns-in-IfElse-clause-kept : goal.inner-returns-in-IfElse-clause-kept
 inner-returns-in-IfElse-clause-kept g t c =
-    seen KeepsHead c.in-IfElse.is (subst (λ q. KeepsHead (stmt.IfElse c.in-IfElse.c c.in-IfElse.x) (stmt.IfElse q c.in_pair.new.x)) (sym (c.in_pair.ensures.other ∙ c.in-IfElse.c-is)) (beside.head_choice _ _ _))
+    seen KeepsHead c.in-IfElse.is (subst (λ q. KeepsHead (stmt.IfElse c.in-IfElse.c c.in-IfElse.x) (stmt.IfElse q c.in_pair.new.x)) (sym (c.in_pair.ensures.other ∙ c.in-IfElse.c-is)) (beside.head_choice _ _ _ (seen_left SameBox {u = c.in_pair.new.x} c.in-IfElse.x-is c.in_pair.ensures.block)))
 
 pub inner-returns-in-IfElse-clause-below : goal.inner-returns-in-IfElse-clause-below
 inner-returns-in-IfElse-clause-below g t c =

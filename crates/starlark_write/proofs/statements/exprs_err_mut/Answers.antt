@@ -1,6 +1,6 @@
 use Rattle.std.proofs.Common.{refl, sym, ap, ◌∙◌, subst, [], ◌∷◌, ◌++◌}
 use denote.Param.{param}
-use Rattle.starlark_write.specs.Beside.{AtPlace, KeepsTarget, stands}
+use Rattle.starlark_write.specs.Beside.{AtPlace, KeepsTarget, SameBox, stands}
 use Rattle.starlark_write.specs.BesideStatements as beside
 use Rattle.starlark_write.specs.BesideStatements.{KeepsAssign, KeepsDef, KeepsFor, KeepsStmt}
 use Rattle.starlark_ast.specs.Places.{target_places}
@@ -62,7 +62,7 @@ returns-in-AssignModify-clause-calls g c =
 
 pub returns-in-AssignModify-clause-kept : goal.returns-in-AssignModify-clause-kept
 returns-in-AssignModify-clause-kept g c =
-    seen KeepsStmt c.in-AssignModify.is (subst (λ q. KeepsStmt (stmt.AssignModify c.in-AssignModify.lhs c.in-AssignModify.op c.in-AssignModify.rhs) (stmt.AssignModify c.modified.new.lhs q c.modified.new.rhs)) (sym (c.modified.ensures.operator ∙ c.in-AssignModify.op-is)) (beside.assign_modify _ _ _ _ _ (seen_left (AtPlace KeepsTarget) c.in-AssignModify.lhs-is c.modified.ensures.target)))
+    seen KeepsStmt c.in-AssignModify.is (subst (λ q. KeepsStmt (stmt.AssignModify c.in-AssignModify.lhs c.in-AssignModify.op c.in-AssignModify.rhs) (stmt.AssignModify c.modified.new.lhs q c.modified.new.rhs)) (sym (c.modified.ensures.operator ∙ c.in-AssignModify.op-is)) (beside.assign_modify _ _ _ _ _ (seen_left SameBox {u = c.modified.new.rhs} c.in-AssignModify.rhs-is c.modified.ensures.block) (seen_left (AtPlace KeepsTarget) c.in-AssignModify.lhs-is c.modified.ensures.target)))
 
 pub returns-in-If-clause-calls : goal.returns-in-If-clause-calls
 returns-in-If-clause-calls g c =

@@ -1,5 +1,6 @@
 use Rattle.std.proofs.Common.{rules, of_calls, arith, ◌≡◌, ◌<◌, refl, sym, ap, ◌∙◌, subst, [], ◌∷◌, flat_map, length, get_or, get_or-set_other}
 use denote.Param.{param}
+use Rattle.std.specs.Vec.{SameBlock}
 use Rattle.starlark_write.specs.Beside as beside
 use Rattle.starlark_write.specs.Beside.{AtPlace, KeepsPlaces, KeepsAllPlaces}
 use Rattle.starlark_ast.specs.Places.{assigned_places}
@@ -21,7 +22,7 @@ lvalue-returns-in-Tuple-clause-calls g t c =
 pub lvalue-returns-in-Tuple-clause-kept : goal.lvalue-returns-in-Tuple-clause-kept
 lvalue-returns-in-Tuple-clause-kept g t c =
     target_lent (param 0 g.row.P) (param 3 g.row.P-LoadPayload) (param 4 g.row.P-IdentPayload) (param 5 g.row.P-IdentAssignPayload) (param 6 g.row.P-DefPayload) (param 7 g.row.P-TypeExprPayload) 0 (λ y v. target.Tuple y) KeepsPlaces c.lvalues.new.xs (c.in-Tuple.xs, tt) c.in-Tuple.is
-    (beside.places_tuple _ _ (seen_left (λ a b. KeepsAllPlaces a.items b) c.in-Tuple.xs-is c.lvalues.ensures.kept))
+    (beside.places_tuple _ _ (seen_left SameBlock {u = c.lvalues.new.xs} c.in-Tuple.xs-is c.lvalues.ensures.block) (seen_left (λ a b. KeepsAllPlaces a.items b) c.in-Tuple.xs-is c.lvalues.ensures.kept))
 
 pub lvalue-returns-in-Index-clause-calls : goal.lvalue-returns-in-Index-clause-calls
 lvalue-returns-in-Index-clause-calls g t c =

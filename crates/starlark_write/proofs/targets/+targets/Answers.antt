@@ -1,7 +1,8 @@
 use Rattle.std.proofs.Common.{rules, of_calls, arith, ◌≡◌, ◌<◌, refl, sym, ap, ◌∙◌, subst, [], ◌∷◌, flat_map, length, get_or, get_or-set_other}
 use denote.Param.{param}
+use Rattle.std.specs.Vec.{SameBlock}
 use Rattle.starlark_write.specs.Beside as beside
-use Rattle.starlark_write.specs.Beside.{AtPlace, KeepsTarget, KeepsTargets}
+use Rattle.starlark_write.specs.Beside.{AtPlace, KeepsTarget, KeepsTargets, SameBox}
 use Rattle.starlark_ast.specs.Places.{target_places}
 use Rattle.starlark_write.specs.Writing.{WritesUntil}
 use Rattle.starlark_ast.specs.declared.ast.AssignTargetP.TheVariants as target
@@ -21,7 +22,7 @@ target-returns-in-Tuple-clause-calls g t c =
 pub target-returns-in-Tuple-clause-kept : goal.target-returns-in-Tuple-clause-kept
 target-returns-in-Tuple-clause-kept g t c =
     target_lent (param 0 g.row.P) (param 3 g.row.P-LoadPayload) (param 4 g.row.P-IdentPayload) (param 5 g.row.P-IdentAssignPayload) (param 6 g.row.P-DefPayload) (param 7 g.row.P-TypeExprPayload) 0 (λ y v. target.Tuple y) KeepsTarget c.targets.new.xs (c.in-Tuple.xs, tt) c.in-Tuple.is
-    (beside.target_tuple _ _ (seen_left (λ a b. KeepsTargets a.items b) c.in-Tuple.xs-is c.targets.ensures.kept))
+    (beside.target_tuple _ _ (seen_left SameBlock {u = c.targets.new.xs} c.in-Tuple.xs-is c.targets.ensures.block) (seen_left (λ a b. KeepsTargets a.items b) c.in-Tuple.xs-is c.targets.ensures.kept))
 
 pub target-returns-in-Index-clause-calls : goal.target-returns-in-Index-clause-calls
 target-returns-in-Index-clause-calls g t c =
@@ -30,7 +31,7 @@ target-returns-in-Index-clause-calls g t c =
 
 pub target-returns-in-Index-clause-kept : goal.target-returns-in-Index-clause-kept
 target-returns-in-Index-clause-kept g t c =
-    target_lent (param 0 g.row.P) (param 3 g.row.P-LoadPayload) (param 4 g.row.P-IdentPayload) (param 5 g.row.P-IdentAssignPayload) (param 6 g.row.P-DefPayload) (param 7 g.row.P-TypeExprPayload) 1 (λ y v. target.Index y) KeepsTarget c.pair.new.x (c.in-Index.x, tt) c.in-Index.is (beside.target_index _ _)
+    target_lent (param 0 g.row.P) (param 3 g.row.P-LoadPayload) (param 4 g.row.P-IdentPayload) (param 5 g.row.P-IdentAssignPayload) (param 6 g.row.P-DefPayload) (param 7 g.row.P-TypeExprPayload) 1 (λ y v. target.Index y) KeepsTarget c.pair.new.x (c.in-Index.x, tt) c.in-Index.is (beside.target_index _ _ (seen_left SameBox {u = c.pair.new.x} c.in-Index.x-is c.pair.ensures.block))
 
 pub target-returns-in-Dot-clause-calls : goal.target-returns-in-Dot-clause-calls
 target-returns-in-Dot-clause-calls g t c =
@@ -38,7 +39,7 @@ target-returns-in-Dot-clause-calls g t c =
 
 pub target-returns-in-Dot-clause-kept : goal.target-returns-in-Dot-clause-kept
 target-returns-in-Dot-clause-kept g t c =
-    seen KeepsTarget c.in-Dot.is (subst (λ q. KeepsTarget (target.Dot c.in-Dot.x c.in-Dot.name) (target.Dot c.beside.new.x q)) (sym (c.beside.ensures.kept ∙ c.in-Dot.name-is)) (beside.target_dot _ _ _))
+    seen KeepsTarget c.in-Dot.is (subst (λ q. KeepsTarget (target.Dot c.in-Dot.x c.in-Dot.name) (target.Dot c.beside.new.x q)) (sym (c.beside.ensures.kept ∙ c.in-Dot.name-is)) (beside.target_dot _ _ _ (seen_left SameBox {u = c.beside.new.x} c.in-Dot.x-is c.beside.ensures.block)))
 
 pub target-returns-in-Identifier-clause-calls : goal.target-returns-in-Identifier-clause-calls
 target-returns-in-Identifier-clause-calls g t c =

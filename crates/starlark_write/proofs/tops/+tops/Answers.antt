@@ -1,5 +1,6 @@
 use Rattle.std.proofs.Common.{rules, of_calls, arith, ◌≡◌, ◌<◌, refl, ap, ◌∙◌, length, drop}
 use denote.Param.{param}
+use Rattle.std.specs.Vec.{SameBlock}
 use Rattle.starlark_ast.specs.declared.ast.StmtP.TheVariants as variant
 use Rattle.starlark_write.specs.Tops.{WritesEachTop, WritesTops}
 use Rattle.starlark_write.proofs.Lent.{seen, seen_left, stmt_lent}
@@ -11,7 +12,7 @@ pub top_level_stmts_mut-returns-in-Statements-clause-written : goal.top_level_st
 top_level_stmts_mut-returns-in-Statements-clause-written g t c =
     let s = c.args.top.now.span in
     stmt_lent (param 0 g.row.P) (param 2 g.row.P-LoadPayload) (param 3 g.row.P-IdentPayload) (param 4 g.row.P-IdentAssignPayload) (param 5 g.row.P-DefPayload) (param 6 g.row.P-TypeExprPayload) 7 (λ y v. variant.Statements y) (λ a b. WritesTops g.F.FnMut c.args.f.now (record { span = s; node = a }) c.list.new.f (record { span = s; node = b })) c.list.new.xs (c.in-Statements.xs, tt) c.in-Statements.is
-    (tops_list g.F.FnMut s _ _ (seen_left (λ a b. WritesEachTop g.F.FnMut c.args.f.now a.items c.list.new.f b) c.in-Statements.xs-is c.list.ensures.written))
+    (tops_list g.F.FnMut s _ _ (seen_left SameBlock {u = c.list.new.xs} c.in-Statements.xs-is c.list.ensures.block) (seen_left (λ a b. WritesEachTop g.F.FnMut c.args.f.now a.items c.list.new.f b) c.in-Statements.xs-is c.list.ensures.written))
 
 pub top_level_stmts_mut-returns-in_default-clause-written : goal.top_level_stmts_mut-returns-in_default-clause-written
 top_level_stmts_mut-returns-in_default-clause-written g t c =

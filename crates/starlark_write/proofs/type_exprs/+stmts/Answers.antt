@@ -1,15 +1,16 @@
 use Rattle.std.proofs.Common.{rules, of_calls, arith, ◌≡◌, ◌<◌, ◌+◌, refl, sym, ap, ◌∙◌, subst, ◌++◌, append_assoc, flat_map, length, drop, get_or}
 use denote.Param.{param}
+use Rattle.std.specs.Vec.{SameBlock}
 use Rattle.starlark_ast.specs.Places.{maybe_place}
 use Rattle.starlark_ast.specs.declared.ast.StmtP.TheVariants as stmt
 use Rattle.starlark_ast.proofs.Tops.{count, falls-Def, falls-For, falls-If}
-use Rattle.starlark_write.specs.Beside.{AtPlace}
+use Rattle.starlark_write.specs.Beside.{AtPlace, SameBox}
 use Rattle.starlark_write.specs.BesideTypes as kept
 use Rattle.starlark_write.specs.BesideTypes.{KeepsAssign, KeepsDef, KeepsForStmt, KeepsReturned, KeepsStmtTypes, KeepsStmtsTypes, KeepsTargetTypes, KeepsTypes}
 use Rattle.starlark_write.specs.TypePlaces.{assign_types, def_types, default_types, expr_types, for_types, own_type, returned_types, stmt_types, target_types}
 use Rattle.starlark_write.specs.Writing.{WritesUntil}
 use Rattle.starlark_write.proofs.KeptParts.{with_node}
-use Rattle.starlark_write.proofs.KeptTypes.{fewer, same_defaults, same_own, stmts_back}
+use Rattle.starlark_write.proofs.KeptTypes.{blocks_then, fewer, same_defaults, same_own, stmts_back}
 use Rattle.starlark_write.proofs.Lent.{both, seen, seen_left, stmt_lent}
 use Rattle.starlark_write.proofs.Loops as loops
 use Rattle.starlark_write.proofs.Loops.{both_more, end_in, front_more, lengths_more, stop_in, take_back, whole, writes_more, writes_stop_here}
@@ -52,7 +53,7 @@ stmt-returns-in-Statements-clause-calls g t c =
 
 pub stmt-returns-in-Statements-clause-kept : goal.stmt-returns-in-Statements-clause-kept
 stmt-returns-in-Statements-clause-kept g t c =
-    stmt_lent (param 0 g.row.P) (param 3 g.row.P-LoadPayload) (param 4 g.row.P-IdentPayload) (param 5 g.row.P-IdentAssignPayload) (param 6 g.row.P-DefPayload) (param 7 g.row.P-TypeExprPayload) 7 (λ y v. stmt.Statements y) KeepsStmtTypes c.stmts.new.xs (c.in-Statements.xs, tt) c.in-Statements.is (kept.list_stmt _ _ (seen_left (λ a b. KeepsStmtsTypes a.items b) c.in-Statements.xs-is c.stmts.ensures.kept))
+    stmt_lent (param 0 g.row.P) (param 3 g.row.P-LoadPayload) (param 4 g.row.P-IdentPayload) (param 5 g.row.P-IdentAssignPayload) (param 6 g.row.P-DefPayload) (param 7 g.row.P-TypeExprPayload) 7 (λ y v. stmt.Statements y) KeepsStmtTypes c.stmts.new.xs (c.in-Statements.xs, tt) c.in-Statements.is (kept.list_stmt _ _ (seen_left SameBlock {u = c.stmts.new.xs} c.in-Statements.xs-is c.stmts.ensures.block) (seen_left (λ a b. KeepsStmtsTypes a.items b) c.in-Statements.xs-is c.stmts.ensures.kept))
 
 pub stmt-returns-in-For-clause-calls : goal.stmt-returns-in-For-clause-calls
 stmt-returns-in-For-clause-calls g t c =
@@ -117,7 +118,7 @@ stmt-returns-in-AssignModify-clause-kept g t c =
     let arm = c.in-AssignModify in
     let call = c.modify in
     seen KeepsStmtTypes arm.is
-    (subst (λ q. KeepsStmtTypes (stmt.AssignModify arm.lhs arm.op arm.rhs) (stmt.AssignModify call.new.lhs q call.new.rhs)) (sym (call.ensures.op ∙ arm.op-is)) (kept.modify_stmt _ _ _ _ _ (seen_left KeepsTargetTypes arm.lhs-is call.ensures.target) (seen_left (λ a b. KeepsTypes a.value b) arm.rhs-is call.ensures.kept)))
+    (subst (λ q. KeepsStmtTypes (stmt.AssignModify arm.lhs arm.op arm.rhs) (stmt.AssignModify call.new.lhs q call.new.rhs)) (sym (call.ensures.op ∙ arm.op-is)) (kept.modify_stmt _ _ _ _ _ (seen_left SameBox {u = call.new.rhs} arm.rhs-is call.ensures.block) (seen_left KeepsTargetTypes arm.lhs-is call.ensures.target) (seen_left (λ a b. KeepsTypes a.value b) arm.rhs-is call.ensures.kept)))
 
 pub stmt-returns-in-If-clause-calls : goal.stmt-returns-in-If-clause-calls
 stmt-returns-in-If-clause-calls g t c =
@@ -128,7 +129,7 @@ stmt-returns-in-If-clause-kept g t c =
     let arm = c.in-If in
     let call = c.branch-c in
     seen KeepsStmtTypes arm.is
-    (let there = seen_left (λ a b. AtPlace KeepsStmtTypes a.value b) arm.x-is call.ensures.kept in kept.if_stmt _ _ _ _ (seen_left KeepsTypes arm.c-is call.ensures.condition) there.span there.node)
+    (let there = seen_left (λ a b. AtPlace KeepsStmtTypes a.value b) arm.x-is call.ensures.kept in kept.if_stmt _ _ _ _ (seen_left SameBox {u = call.new.x} arm.x-is call.ensures.block) (seen_left KeepsTypes arm.c-is call.ensures.condition) there.span there.node)
 
 pub stmt-returns-in-IfElse-clause-calls : goal.stmt-returns-in-IfElse-clause-calls
 stmt-returns-in-IfElse-clause-calls g t c =
@@ -139,7 +140,7 @@ stmt-returns-in-IfElse-clause-kept g t c =
     let arm = c.in-IfElse in
     let call = c.branches in
     seen KeepsStmtTypes arm.is
-    (let one = seen_left (λ a b. AtPlace KeepsStmtTypes a.value.0 b) arm.x-is call.ensures.first in let two = seen_left (λ a b. AtPlace KeepsStmtTypes a.value.1 b) arm.x-is call.ensures.second in kept.if_else_stmt _ _ _ _ (seen_left KeepsTypes arm.c-is call.ensures.condition) one.span one.node two.span two.node)
+    (let one = seen_left (λ a b. AtPlace KeepsStmtTypes a.value.0 b) arm.x-is call.ensures.first in let two = seen_left (λ a b. AtPlace KeepsStmtTypes a.value.1 b) arm.x-is call.ensures.second in kept.if_else_stmt _ _ _ _ (seen_left SameBox {u = call.new.x} arm.x-is call.ensures.block) (seen_left KeepsTypes arm.c-is call.ensures.condition) one.span one.node two.span two.node)
 
 pub stmt-stmts-requires : goal.stmt-stmts-requires
 stmt-stmts-requires g t c κs within =
@@ -284,7 +285,7 @@ repeat-returns-in-Err-clause-calls g t c =
 
 pub repeat-returns-in-Err-clause-kept : goal.repeat-returns-in-Err-clause-kept
 repeat-returns-in-Err-clause-kept g t c =
-    kept.for_stmt_parts _ _ c.target.ensures.kept (kept.same _) refl (kept.same_stmt _)
+    kept.for_stmt_parts _ _ c.target.ensures.kept (kept.same _) refl refl (kept.same_stmt _)
 
 pub repeat-returns-in-Err-expr-clause-calls : goal.repeat-returns-in-Err-expr-clause-calls
 repeat-returns-in-Err-expr-clause-calls g t c =
@@ -292,7 +293,7 @@ repeat-returns-in-Err-expr-clause-calls g t c =
 
 pub repeat-returns-in-Err-expr-clause-kept : goal.repeat-returns-in-Err-expr-clause-kept
 repeat-returns-in-Err-expr-clause-kept g t c =
-    kept.for_stmt_parts _ _ c.target.ensures.kept c.expr.ensures.kept refl (kept.same_stmt _)
+    kept.for_stmt_parts _ _ c.target.ensures.kept c.expr.ensures.kept refl refl (kept.same_stmt _)
 
 pub repeat-returns-clause-calls : goal.repeat-returns-clause-calls
 repeat-returns-clause-calls g t c =
@@ -300,7 +301,7 @@ repeat-returns-clause-calls g t c =
 
 pub repeat-returns-clause-kept : goal.repeat-returns-clause-kept
 repeat-returns-clause-kept g t c =
-    kept.for_stmt_parts _ _ c.target.ensures.kept c.expr.ensures.kept c.body.ensures.kept.span c.body.ensures.kept.node
+    kept.for_stmt_parts _ _ c.target.ensures.kept c.expr.ensures.kept c.body.ensures.block c.body.ensures.kept.span c.body.ensures.kept.node
 
 pub define-returns-in-Err-clause-calls : goal.define-returns-in-Err-clause-calls
 define-returns-in-Err-clause-calls g t c =
@@ -308,7 +309,7 @@ define-returns-in-Err-clause-calls g t c =
 
 pub define-returns-in-Err-clause-kept : goal.define-returns-in-Err-clause-kept
 define-returns-in-Err-clause-kept g t c =
-    kept.def_parts _ _ c.defined.new.params.items refl c.defined.ensures.params (kept.defaults_rest _) c.defined.ensures.returned refl (kept.same_stmt _) refl
+    kept.def_parts _ _ c.defined.new.params.items refl c.defined.ensures.block c.defined.ensures.params (kept.defaults_rest _) c.defined.ensures.returned refl refl (kept.same_stmt _) refl
 
 pub define-returns-in-Err-defaults-clause-calls : goal.define-returns-in-Err-defaults-clause-calls
 define-returns-in-Err-defaults-clause-calls g t c =
@@ -316,7 +317,7 @@ define-returns-in-Err-defaults-clause-calls g t c =
 
 pub define-returns-in-Err-defaults-clause-kept : goal.define-returns-in-Err-defaults-clause-kept
 define-returns-in-Err-defaults-clause-kept g t c =
-    kept.def_parts _ _ c.defined.new.params.items refl c.defined.ensures.params c.defaults.ensures.kept c.defined.ensures.returned refl (kept.same_stmt _) refl
+    kept.def_parts _ _ c.defined.new.params.items refl (blocks_then c.args.x.now.params c.defined.new.params c.defaults.new.xs c.defined.ensures.block c.defaults.ensures.block) c.defined.ensures.params c.defaults.ensures.kept c.defined.ensures.returned refl refl (kept.same_stmt _) refl
 
 pub define-returns-clause-calls : goal.define-returns-clause-calls
 define-returns-clause-calls g t c =
@@ -324,7 +325,7 @@ define-returns-clause-calls g t c =
 
 pub define-returns-clause-kept : goal.define-returns-clause-kept
 define-returns-clause-kept g t c =
-    kept.def_parts _ _ c.defined.new.params.items refl c.defined.ensures.params c.defaults.ensures.kept c.defined.ensures.returned c.body.ensures.kept.span c.body.ensures.kept.node refl
+    kept.def_parts _ _ c.defined.new.params.items refl (blocks_then c.args.x.now.params c.defined.new.params c.defaults.new.xs c.defined.ensures.block c.defaults.ensures.block) c.defined.ensures.params c.defaults.ensures.kept c.defined.ensures.returned c.body.ensures.block c.body.ensures.kept.span c.body.ensures.kept.node refl
 
 pub stmts-returns-clause-calls : goal.stmts-returns-clause-calls
 stmts-returns-clause-calls g t c =

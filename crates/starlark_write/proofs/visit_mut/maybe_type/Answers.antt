@@ -15,4 +15,4 @@ returns-in-Some-clause-calls g c = writes_at g.F.FnMut (ap maybe_type_place c.in
 
 pub returns-in-Some-clause-kept : goal.returns-in-Some-clause-kept
 returns-in-Some-clause-kept g c =
-    seen KeepsMaybeType c.in-Some.is (beside.typed _ _ (record { span = ap (λ q. q.span) c.deref_mut.ensures.value; node = record { payload = ap (λ q. (out-TypeExprP _ _ _ _ _ _ q.node).payload) c.deref_mut.ensures.value } }))
+    seen KeepsMaybeType c.in-Some.is (beside.typed _ _ refl (record { span = ap (λ q. q.span) c.deref_mut.ensures.value; node = record { payload = ap (λ q. (out-TypeExprP _ _ _ _ _ _ q.node).payload) c.deref_mut.ensures.value } }))

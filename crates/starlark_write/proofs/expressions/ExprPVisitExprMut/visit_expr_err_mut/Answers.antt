@@ -1,7 +1,8 @@
 use Rattle.std.proofs.Common.{refl, sym, ap, ◌∙◌, subst, [], ◌∷◌, ◌++◌, flat_map, length}
 use denote.Param.{param}
+use Rattle.std.specs.Vec.{SameBlock}
 use Rattle.starlark_write.specs.Beside as beside
-use Rattle.starlark_write.specs.Beside.{AtPlace, Each, KeepsArgs, KeepsClause, KeepsExpr, KeepsForClause, KeepsFString, KeepsLambda, args_places, fstring_places, lambda_places, stands}
+use Rattle.starlark_write.specs.Beside.{AtPlace, Each, KeepsArgs, KeepsClause, KeepsExpr, KeepsForClause, KeepsFString, KeepsLambda, SameBox, args_places, block_of, fstring_places, lambda_places}
 use Rattle.starlark_ast.specs.Places.{children, expr_layer, clause_places, for_clause_places, maybe_place, pair_places}
 use Rattle.starlark_write.specs.Writing.{WritesUntil}
 use Rattle.starlark_ast.specs.declared.ast.ExprP.TheVariants as expr
@@ -17,7 +18,7 @@ returns-in-Tuple-clause-calls g c =
 
 pub returns-in-Tuple-clause-kept : goal.returns-in-Tuple-clause-kept
 returns-in-Tuple-clause-kept g c =
-    expr_lent (param 0 g.row.P) (param 1 g.row.P-LoadPayload) (param 2 g.row.P-IdentPayload) (param 3 g.row.P-IdentAssignPayload) (param 4 g.row.P-DefPayload) (param 5 g.row.P-TypeExprPayload) 0 (λ y v. expr.Tuple y) KeepsExpr c.list.new.xs (c.in-Tuple.xs, tt) c.in-Tuple.is (beside.tuple _ _ (c.list.ensures.kept ∙ ap (λ q. length q.items) c.in-Tuple.xs-is))
+    expr_lent (param 0 g.row.P) (param 1 g.row.P-LoadPayload) (param 2 g.row.P-IdentPayload) (param 3 g.row.P-IdentAssignPayload) (param 4 g.row.P-DefPayload) (param 5 g.row.P-TypeExprPayload) 0 (λ y v. expr.Tuple y) KeepsExpr c.list.new.xs (c.in-Tuple.xs, tt) c.in-Tuple.is (beside.tuple _ _ (seen_left SameBlock {u = c.list.new.xs} c.in-Tuple.xs-is c.list.ensures.block) (c.list.ensures.kept ∙ ap (λ q. length q.items) c.in-Tuple.xs-is))
 
 pub returns-in-Index-clause-calls : goal.returns-in-Index-clause-calls
 returns-in-Index-clause-calls g c =
@@ -26,7 +27,7 @@ returns-in-Index-clause-calls g c =
 
 pub returns-in-Index-clause-kept : goal.returns-in-Index-clause-kept
 returns-in-Index-clause-kept g c =
-    expr_lent (param 0 g.row.P) (param 1 g.row.P-LoadPayload) (param 2 g.row.P-IdentPayload) (param 3 g.row.P-IdentAssignPayload) (param 4 g.row.P-DefPayload) (param 5 g.row.P-TypeExprPayload) 3 (λ y v. expr.Index y) KeepsExpr c.pair.new.x (c.in-Index.x, tt) c.in-Index.is (beside.index _ _)
+    expr_lent (param 0 g.row.P) (param 1 g.row.P-LoadPayload) (param 2 g.row.P-IdentPayload) (param 3 g.row.P-IdentAssignPayload) (param 4 g.row.P-DefPayload) (param 5 g.row.P-TypeExprPayload) 3 (λ y v. expr.Index y) KeepsExpr c.pair.new.x (c.in-Index.x, tt) c.in-Index.is (beside.index _ _ (seen_left SameBox {u = c.pair.new.x} c.in-Index.x-is c.pair.ensures.block))
 
 pub returns-in-Index2-clause-calls : goal.returns-in-Index2-clause-calls
 returns-in-Index2-clause-calls g c =
@@ -35,7 +36,7 @@ returns-in-Index2-clause-calls g c =
 
 pub returns-in-Index2-clause-kept : goal.returns-in-Index2-clause-kept
 returns-in-Index2-clause-kept g c =
-    expr_lent (param 0 g.row.P) (param 1 g.row.P-LoadPayload) (param 2 g.row.P-IdentPayload) (param 3 g.row.P-IdentAssignPayload) (param 4 g.row.P-DefPayload) (param 5 g.row.P-TypeExprPayload) 4 (λ y v. expr.Index2 y) KeepsExpr c.triple.new.x (c.in-Index2.x, tt) c.in-Index2.is (beside.index2 _ _)
+    expr_lent (param 0 g.row.P) (param 1 g.row.P-LoadPayload) (param 2 g.row.P-IdentPayload) (param 3 g.row.P-IdentAssignPayload) (param 4 g.row.P-DefPayload) (param 5 g.row.P-TypeExprPayload) 4 (λ y v. expr.Index2 y) KeepsExpr c.triple.new.x (c.in-Index2.x, tt) c.in-Index2.is (beside.index2 _ _ (seen_left SameBox {u = c.triple.new.x} c.in-Index2.x-is c.triple.ensures.block))
 
 pub returns-in-Lambda-clause-calls : goal.returns-in-Lambda-clause-calls
 returns-in-Lambda-clause-calls g c =
@@ -53,7 +54,7 @@ returns-in-Not-clause-calls g c =
 
 pub returns-in-Not-clause-kept : goal.returns-in-Not-clause-kept
 returns-in-Not-clause-kept g c =
-    expr_lent (param 0 g.row.P) (param 1 g.row.P-LoadPayload) (param 2 g.row.P-IdentPayload) (param 3 g.row.P-IdentAssignPayload) (param 4 g.row.P-DefPayload) (param 5 g.row.P-TypeExprPayload) 9 (λ y v. expr.Not y) KeepsExpr c.boxed.new.x (c.in-Not.x, tt) c.in-Not.is (beside.not _ _)
+    expr_lent (param 0 g.row.P) (param 1 g.row.P-LoadPayload) (param 2 g.row.P-IdentPayload) (param 3 g.row.P-IdentAssignPayload) (param 4 g.row.P-DefPayload) (param 5 g.row.P-TypeExprPayload) 9 (λ y v. expr.Not y) KeepsExpr c.boxed.new.x (c.in-Not.x, tt) c.in-Not.is (beside.not _ _ (seen_left SameBox {u = c.boxed.new.x} c.in-Not.x-is c.boxed.ensures.block))
 
 pub returns-in-Minus-clause-calls : goal.returns-in-Minus-clause-calls
 returns-in-Minus-clause-calls g c =
@@ -62,7 +63,7 @@ returns-in-Minus-clause-calls g c =
 
 pub returns-in-Minus-clause-kept : goal.returns-in-Minus-clause-kept
 returns-in-Minus-clause-kept g c =
-    expr_lent (param 0 g.row.P) (param 1 g.row.P-LoadPayload) (param 2 g.row.P-IdentPayload) (param 3 g.row.P-IdentAssignPayload) (param 4 g.row.P-DefPayload) (param 5 g.row.P-TypeExprPayload) 10 (λ y v. expr.Minus y) KeepsExpr c.boxed-in-Minus.new.x (c.in-Minus.x, tt) c.in-Minus.is (beside.minus _ _)
+    expr_lent (param 0 g.row.P) (param 1 g.row.P-LoadPayload) (param 2 g.row.P-IdentPayload) (param 3 g.row.P-IdentAssignPayload) (param 4 g.row.P-DefPayload) (param 5 g.row.P-TypeExprPayload) 10 (λ y v. expr.Minus y) KeepsExpr c.boxed-in-Minus.new.x (c.in-Minus.x, tt) c.in-Minus.is (beside.minus _ _ (seen_left SameBox {u = c.boxed-in-Minus.new.x} c.in-Minus.x-is c.boxed-in-Minus.ensures.block))
 
 pub returns-in-Plus-clause-calls : goal.returns-in-Plus-clause-calls
 returns-in-Plus-clause-calls g c =
@@ -71,7 +72,7 @@ returns-in-Plus-clause-calls g c =
 
 pub returns-in-Plus-clause-kept : goal.returns-in-Plus-clause-kept
 returns-in-Plus-clause-kept g c =
-    expr_lent (param 0 g.row.P) (param 1 g.row.P-LoadPayload) (param 2 g.row.P-IdentPayload) (param 3 g.row.P-IdentAssignPayload) (param 4 g.row.P-DefPayload) (param 5 g.row.P-TypeExprPayload) 11 (λ y v. expr.Plus y) KeepsExpr c.boxed-in-Plus.new.x (c.in-Plus.x, tt) c.in-Plus.is (beside.plus _ _)
+    expr_lent (param 0 g.row.P) (param 1 g.row.P-LoadPayload) (param 2 g.row.P-IdentPayload) (param 3 g.row.P-IdentAssignPayload) (param 4 g.row.P-DefPayload) (param 5 g.row.P-TypeExprPayload) 11 (λ y v. expr.Plus y) KeepsExpr c.boxed-in-Plus.new.x (c.in-Plus.x, tt) c.in-Plus.is (beside.plus _ _ (seen_left SameBox {u = c.boxed-in-Plus.new.x} c.in-Plus.x-is c.boxed-in-Plus.ensures.block))
 
 pub returns-in-BitNot-clause-calls : goal.returns-in-BitNot-clause-calls
 returns-in-BitNot-clause-calls g c =
@@ -80,7 +81,7 @@ returns-in-BitNot-clause-calls g c =
 
 pub returns-in-BitNot-clause-kept : goal.returns-in-BitNot-clause-kept
 returns-in-BitNot-clause-kept g c =
-    expr_lent (param 0 g.row.P) (param 1 g.row.P-LoadPayload) (param 2 g.row.P-IdentPayload) (param 3 g.row.P-IdentAssignPayload) (param 4 g.row.P-DefPayload) (param 5 g.row.P-TypeExprPayload) 12 (λ y v. expr.BitNot y) KeepsExpr c.boxed-in-BitNot.new.x (c.in-BitNot.x, tt) c.in-BitNot.is (beside.bit_not _ _)
+    expr_lent (param 0 g.row.P) (param 1 g.row.P-LoadPayload) (param 2 g.row.P-IdentPayload) (param 3 g.row.P-IdentAssignPayload) (param 4 g.row.P-DefPayload) (param 5 g.row.P-TypeExprPayload) 12 (λ y v. expr.BitNot y) KeepsExpr c.boxed-in-BitNot.new.x (c.in-BitNot.x, tt) c.in-BitNot.is (beside.bit_not _ _ (seen_left SameBox {u = c.boxed-in-BitNot.new.x} c.in-BitNot.x-is c.boxed-in-BitNot.ensures.block))
 
 pub returns-in-If-clause-calls : goal.returns-in-If-clause-calls
 returns-in-If-clause-calls g c =
@@ -89,7 +90,7 @@ returns-in-If-clause-calls g c =
 
 pub returns-in-If-clause-kept : goal.returns-in-If-clause-kept
 returns-in-If-clause-kept g c =
-    expr_lent (param 0 g.row.P) (param 1 g.row.P-LoadPayload) (param 2 g.row.P-IdentPayload) (param 3 g.row.P-IdentAssignPayload) (param 4 g.row.P-DefPayload) (param 5 g.row.P-TypeExprPayload) 14 (λ y v. expr.If y) KeepsExpr c.triple-in-If.new.x (c.in-If.x, tt) c.in-If.is (beside.choice _ _)
+    expr_lent (param 0 g.row.P) (param 1 g.row.P-LoadPayload) (param 2 g.row.P-IdentPayload) (param 3 g.row.P-IdentAssignPayload) (param 4 g.row.P-DefPayload) (param 5 g.row.P-TypeExprPayload) 14 (λ y v. expr.If y) KeepsExpr c.triple-in-If.new.x (c.in-If.x, tt) c.in-If.is (beside.choice _ _ (seen_left SameBox {u = c.triple-in-If.new.x} c.in-If.x-is c.triple-in-If.ensures.block))
 
 pub returns-in-List-clause-calls : goal.returns-in-List-clause-calls
 returns-in-List-clause-calls g c =
@@ -98,7 +99,7 @@ returns-in-List-clause-calls g c =
 
 pub returns-in-List-clause-kept : goal.returns-in-List-clause-kept
 returns-in-List-clause-kept g c =
-    expr_lent (param 0 g.row.P) (param 1 g.row.P-LoadPayload) (param 2 g.row.P-IdentPayload) (param 3 g.row.P-IdentAssignPayload) (param 4 g.row.P-DefPayload) (param 5 g.row.P-TypeExprPayload) 15 (λ y v. expr.List y) KeepsExpr c.list-in-List.new.xs (c.in-List.xs, tt) c.in-List.is (beside.list _ _ (c.list-in-List.ensures.kept ∙ ap (λ q. length q.items) c.in-List.xs-is))
+    expr_lent (param 0 g.row.P) (param 1 g.row.P-LoadPayload) (param 2 g.row.P-IdentPayload) (param 3 g.row.P-IdentAssignPayload) (param 4 g.row.P-DefPayload) (param 5 g.row.P-TypeExprPayload) 15 (λ y v. expr.List y) KeepsExpr c.list-in-List.new.xs (c.in-List.xs, tt) c.in-List.is (beside.list _ _ (seen_left SameBlock {u = c.list-in-List.new.xs} c.in-List.xs-is c.list-in-List.ensures.block) (c.list-in-List.ensures.kept ∙ ap (λ q. length q.items) c.in-List.xs-is))
 
 pub returns-in-Dict-clause-calls : goal.returns-in-Dict-clause-calls
 returns-in-Dict-clause-calls g c =
@@ -107,7 +108,7 @@ returns-in-Dict-clause-calls g c =
 
 pub returns-in-Dict-clause-kept : goal.returns-in-Dict-clause-kept
 returns-in-Dict-clause-kept g c =
-    expr_lent (param 0 g.row.P) (param 1 g.row.P-LoadPayload) (param 2 g.row.P-IdentPayload) (param 3 g.row.P-IdentAssignPayload) (param 4 g.row.P-DefPayload) (param 5 g.row.P-TypeExprPayload) 16 (λ y v. expr.Dict y) KeepsExpr c.parts.new.xs (c.in-Dict.xs, tt) c.in-Dict.is (beside.dict _ _ (each_length _ c.parts.ensures.kept ∙ ap (λ q. length q.items) c.in-Dict.xs-is))
+    expr_lent (param 0 g.row.P) (param 1 g.row.P-LoadPayload) (param 2 g.row.P-IdentPayload) (param 3 g.row.P-IdentAssignPayload) (param 4 g.row.P-DefPayload) (param 5 g.row.P-TypeExprPayload) 16 (λ y v. expr.Dict y) KeepsExpr c.parts.new.xs (c.in-Dict.xs, tt) c.in-Dict.is (beside.dict _ _ (seen_left SameBlock {u = c.parts.new.xs} c.in-Dict.xs-is c.parts.ensures.block) (each_length _ c.parts.ensures.kept ∙ ap (λ q. length q.items) c.in-Dict.xs-is))
 
 pub returns-in-FString-clause-calls : goal.returns-in-FString-clause-calls
 returns-in-FString-clause-calls g c =
@@ -124,7 +125,7 @@ returns-in-Dot-clause-calls g c =
 
 pub returns-in-Dot-clause-kept : goal.returns-in-Dot-clause-kept
 returns-in-Dot-clause-kept g c =
-    seen KeepsExpr c.in-Dot.is (subst (λ q. KeepsExpr (expr.Dot c.in-Dot.x c.in-Dot.name) (expr.Dot c.beside.new.x q)) (sym (c.beside.ensures.kept ∙ c.in-Dot.name-is)) (beside.dot _ _ _))
+    seen KeepsExpr c.in-Dot.is (subst (λ q. KeepsExpr (expr.Dot c.in-Dot.x c.in-Dot.name) (expr.Dot c.beside.new.x q)) (sym (c.beside.ensures.kept ∙ c.in-Dot.name-is)) (beside.dot _ _ _ (seen_left SameBox {u = c.beside.new.x} c.in-Dot.x-is c.beside.ensures.block)))
 
 pub returns-in-Call-clause-calls : goal.returns-in-Call-clause-calls
 returns-in-Call-clause-calls g c =
@@ -132,7 +133,7 @@ returns-in-Call-clause-calls g c =
 
 pub returns-in-Call-clause-kept : goal.returns-in-Call-clause-kept
 returns-in-Call-clause-kept g c =
-    seen KeepsExpr c.in-Call.is (beside.call _ _ _ _ (seen_left KeepsArgs c.in-Call.args-is c.call.ensures.kept))
+    seen KeepsExpr c.in-Call.is (beside.call _ _ _ _ (seen_left SameBox {u = c.call.new.x} c.in-Call.x-is c.call.ensures.block) (seen_left KeepsArgs c.in-Call.args-is c.call.ensures.kept))
 
 pub returns-in-Slice-clause-calls : goal.returns-in-Slice-clause-calls
 returns-in-Slice-clause-calls g c =
@@ -140,7 +141,7 @@ returns-in-Slice-clause-calls g c =
 
 pub returns-in-Slice-clause-kept : goal.returns-in-Slice-clause-kept
 returns-in-Slice-clause-kept g c =
-    seen KeepsExpr c.in-Slice.is (beside.slice _ _ _ _ _ _ _ _ (c.slice.ensures.first ∙ ap stands c.in-Slice.a-is) (c.slice.ensures.second ∙ ap stands c.in-Slice.b-is) (c.slice.ensures.third ∙ ap stands c.in-Slice.c-is))
+    seen KeepsExpr c.in-Slice.is (beside.slice _ _ _ _ _ _ _ _ (seen_left SameBox {u = c.slice.new.x} c.in-Slice.x-is c.slice.ensures.block) (c.slice.ensures.first ∙ ap block_of c.in-Slice.a-is) (c.slice.ensures.second ∙ ap block_of c.in-Slice.b-is) (c.slice.ensures.third ∙ ap block_of c.in-Slice.c-is))
 
 pub returns-in-Op-clause-calls : goal.returns-in-Op-clause-calls
 returns-in-Op-clause-calls g c =
@@ -148,7 +149,7 @@ returns-in-Op-clause-calls g c =
 
 pub returns-in-Op-clause-kept : goal.returns-in-Op-clause-kept
 returns-in-Op-clause-kept g c =
-    seen KeepsExpr c.in-Op.is (subst (λ q. KeepsExpr (expr.Op c.in-Op.x c.in-Op.op c.in-Op.y) (expr.Op c.around.new.x q c.around.new.y)) (sym (c.around.ensures.kept ∙ c.in-Op.op-is)) (beside.op _ _ _ _ _))
+    seen KeepsExpr c.in-Op.is (subst (λ q. KeepsExpr (expr.Op c.in-Op.x c.in-Op.op c.in-Op.y) (expr.Op c.around.new.x q c.around.new.y)) (sym (c.around.ensures.kept ∙ c.in-Op.op-is)) (beside.op _ _ _ _ _ (seen_left SameBox {u = c.around.new.x} c.in-Op.x-is c.around.ensures.first_block) (seen_left SameBox {u = c.around.new.y} c.in-Op.y-is c.around.ensures.second_block)))
 
 pub returns-in-ListComprehension-clause-calls : goal.returns-in-ListComprehension-clause-calls
 returns-in-ListComprehension-clause-calls g c =
@@ -156,7 +157,7 @@ returns-in-ListComprehension-clause-calls g c =
 
 pub returns-in-ListComprehension-clause-kept : goal.returns-in-ListComprehension-clause-kept
 returns-in-ListComprehension-clause-kept g c =
-    seen KeepsExpr c.in-ListComprehension.is (beside.list_comprehension _ _ _ _ _ _ (seen_left (λ p q. KeepsForClause p.value q) c.in-ListComprehension.first-is c.listed.ensures.first) (seen_left (λ p q. Each KeepsClause p.items q) c.in-ListComprehension.rest-is c.listed.ensures.rest))
+    seen KeepsExpr c.in-ListComprehension.is (beside.list_comprehension _ _ _ _ _ _ (seen_left SameBox {u = c.listed.new.x} c.in-ListComprehension.x-is c.listed.ensures.block) (seen_left SameBox {u = c.listed.new.first} c.in-ListComprehension.first-is c.listed.ensures.first_block) (seen_left SameBlock {u = c.listed.new.rest} c.in-ListComprehension.rest-is c.listed.ensures.rest_block) (seen_left (λ p q. KeepsForClause p.value q) c.in-ListComprehension.first-is c.listed.ensures.first) (seen_left (λ p q. Each KeepsClause p.items q) c.in-ListComprehension.rest-is c.listed.ensures.rest))
 
 pub returns-in-DictComprehension-clause-calls : goal.returns-in-DictComprehension-clause-calls
 returns-in-DictComprehension-clause-calls g c =
@@ -164,7 +165,7 @@ returns-in-DictComprehension-clause-calls g c =
 
 pub returns-in-DictComprehension-clause-kept : goal.returns-in-DictComprehension-clause-kept
 returns-in-DictComprehension-clause-kept g c =
-    seen KeepsExpr c.in-DictComprehension.is (beside.dict_comprehension _ _ _ _ _ _ (seen_left (λ p q. KeepsForClause p.value q) c.in-DictComprehension.first-is c.mapped.ensures.first) (seen_left (λ p q. Each KeepsClause p.items q) c.in-DictComprehension.rest-is c.mapped.ensures.rest))
+    seen KeepsExpr c.in-DictComprehension.is (beside.dict_comprehension _ _ _ _ _ _ (seen_left SameBox {u = c.mapped.new.x} c.in-DictComprehension.x-is c.mapped.ensures.block) (seen_left SameBox {u = c.mapped.new.first} c.in-DictComprehension.first-is c.mapped.ensures.first_block) (seen_left SameBlock {u = c.mapped.new.rest} c.in-DictComprehension.rest-is c.mapped.ensures.rest_block) (seen_left (λ p q. KeepsForClause p.value q) c.in-DictComprehension.first-is c.mapped.ensures.first) (seen_left (λ p q. Each KeepsClause p.items q) c.in-DictComprehension.rest-is c.mapped.ensures.rest))
 
 pub returns-in-Identifier-clause-calls : goal.returns-in-Identifier-clause-calls
 returns-in-Identifier-clause-calls g c =

@@ -8,7 +8,7 @@ pub returns-clause-calls : goal.returns-clause-calls
 returns-clause-calls g c = writes_at g.F.FnMut (sym (singles-map argument_place _)) (sym (singles-map argument_place _)) c.parts.ensures.calls
 
 pub returns-clause-kept : goal.returns-clause-kept
-returns-clause-kept g c = record { args = c.parts.ensures.kept }
+returns-clause-kept g c = record { block = c.parts.ensures.block; args = c.parts.ensures.kept }
 
 pub returns-clause-callable : goal.returns-clause-callable
 returns-clause-callable g c = c.parts.ensures.callable

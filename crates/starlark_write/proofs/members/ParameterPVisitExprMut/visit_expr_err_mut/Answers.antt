@@ -1,6 +1,6 @@
 use Rattle.std.proofs.Common.{sym, ap, ◌∙◌, subst}
 use Rattle.starlark_write.specs.Beside as beside
-use Rattle.starlark_write.specs.Beside.{KeepsMaybeType, KeepsParameter, stands}
+use Rattle.starlark_write.specs.Beside.{KeepsMaybeType, KeepsParameter, block_of}
 use Rattle.starlark_ast.specs.declared.ast.ParameterP.TheVariants as parameter
 use Rattle.starlark_write.proofs.Lent.{seen, seen_left}
 use Rattle.starlark_write.proofs.members.ParameterPVisitExprMut.visit_expr_err_mut.Goals as goal
@@ -14,7 +14,7 @@ returns-in-NoArgs-clause-kept g c = subst (λ q. KeepsParameter q q) (sym c.in-N
 pub returns-in-Normal-clause-kept : goal.returns-in-Normal-clause-kept
 returns-in-Normal-clause-kept g c =
     seen KeepsParameter c.in-Normal.is (subst (λ q. KeepsParameter (parameter.Normal c.in-Normal.name c.in-Normal.ty c.in-Normal.default) (parameter.Normal q c.normal.new.ty c.normal.new.default)) (sym (c.normal.ensures.other ∙ c.in-Normal.name-is))
-    (beside.normal _ _ _ _ _ (seen_left KeepsMaybeType c.in-Normal.ty-is c.normal.ensures.ty) (c.normal.ensures.default ∙ ap stands c.in-Normal.default-is)))
+    (beside.normal _ _ _ _ _ (seen_left KeepsMaybeType c.in-Normal.ty-is c.normal.ensures.ty) (c.normal.ensures.default ∙ ap block_of c.in-Normal.default-is)))
 
 pub returns-in-Args-clause-kept : goal.returns-in-Args-clause-kept
 returns-in-Args-clause-kept g c =

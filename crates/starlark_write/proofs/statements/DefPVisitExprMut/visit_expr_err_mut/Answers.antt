@@ -8,10 +8,10 @@ pub returns-in-Err-clause-calls : goal.returns-in-Err-clause-calls
 returns-in-Err-clause-calls g c = writes_stop g.F.FnMut (maybe_type_place c.args.self.now.return_type) c.parts.ensures.calls c.in-Err.is refl
 
 pub returns-in-Err-clause-kept : goal.returns-in-Err-clause-kept
-returns-in-Err-clause-kept g c = record { name = refl; params = c.parts.ensures.kept; return_type = maybe_type_same _; body = refl; payload = refl }
+returns-in-Err-clause-kept g c = record { name = refl; params_block = c.parts.ensures.block; params = c.parts.ensures.kept; return_type = maybe_type_same _; body = refl; payload = refl }
 
 pub returns-clause-calls : goal.returns-clause-calls
 returns-clause-calls g c = writes_then g.F.FnMut c.parts.ensures.calls c.in_default.is c.maybe_type.ensures.calls
 
 pub returns-clause-kept : goal.returns-clause-kept
-returns-clause-kept g c = record { name = refl; params = c.parts.ensures.kept; return_type = c.maybe_type.ensures.kept; body = refl; payload = refl }
+returns-clause-kept g c = record { name = refl; params_block = c.parts.ensures.block; params = c.parts.ensures.kept; return_type = c.maybe_type.ensures.kept; body = refl; payload = refl }
