@@ -115,7 +115,3 @@ whole_texts d (Err e) says h p = tt
 -- the tokens of all that a lexer has left
 pub opened : {t : Left} {l m n : Lexed} {a b : Aside} → t ≡ left_of 0 l a → m ≡ l → n ≡ m → a ≡ b → t ≡ left_of 0 n b
 opened {t} {l} {m} {n} {a} {b} w p q r = w ∙ ap (λ z. left_of 0 z a) (sym (q ∙ p)) ∙ ap (λ z. left_of 0 n z) r
-
--- what holds of an Ok holds of what is in it
-pub at_ok : {A E : Type 0} (P : A → Type 0) {r : Result A E} {x : A} → r ≡ Ok x → IfOk r P → P x
-at_ok {A} {E} P {r} {x} is h = subst (λ (q : Result A E). IfOk q P) is h

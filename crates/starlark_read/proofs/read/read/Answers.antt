@@ -1,13 +1,14 @@
 use Rattle.std.proofs.Common.{ap, sym, ◌∙◌}
+use Rattle.std.proofs.lemmas.Result.{IfOk-at_ok}
 use Rattle.starlark_grammar.specs.Language.{uncommented}
-use Rattle.starlark_read.proofs.Answering.{at_ok, opened, refused_text, whole_texts}
+use Rattle.starlark_read.proofs.Answering.{opened, refused_text, whole_texts}
 use Rattle.starlark_read.proofs.read.read.Goals as goal
 
 pub returns-in-Ok-answer-clause-whole : goal.returns-in-Ok-answer-clause-whole
-returns-in-Ok-answer-clause-whole g c = at_ok _ c.in-Ok-answer.is (c.program-answer.ensures.whole _ _ (opened c.new-tokens.ensures c.in-Ok.ensures.tokens (sym (ap (λ z. uncommented z.left) c.new-feed.ensures.lexer)) c.in-Ok.ensures.aside))
+returns-in-Ok-answer-clause-whole g c = IfOk-at_ok _ c.in-Ok-answer.is (c.program-answer.ensures.whole _ _ (opened c.new-tokens.ensures c.in-Ok.ensures.tokens (sym (ap (λ z. uncommented z.left) c.new-feed.ensures.lexer)) c.in-Ok.ensures.aside))
 
 pub returns-in-Ok-answer-clause-language : goal.returns-in-Ok-answer-clause-language
-returns-in-Ok-answer-clause-language g c text h = at_ok _ c.in-Ok-answer.is (whole_texts _ _ _ h (c.program-answer.ensures.whole _ _ (opened c.new-tokens.ensures c.in-Ok.ensures.tokens (sym (ap (λ z. uncommented z.left) c.new-feed.ensures.lexer)) c.in-Ok.ensures.aside)))
+returns-in-Ok-answer-clause-language g c text h = IfOk-at_ok _ c.in-Ok-answer.is (whole_texts _ _ _ h (c.program-answer.ensures.whole _ _ (opened c.new-tokens.ensures c.in-Ok.ensures.tokens (sym (ap (λ z. uncommented z.left) c.new-feed.ensures.lexer)) c.in-Ok.ensures.aside)))
 
 pub returns-in-Err-clause-refused : goal.returns-in-Err-clause-refused
 returns-in-Err-clause-refused g c e f q w =
