@@ -14,7 +14,7 @@ use crate::block::block;
 use crate::error::Error;
 use crate::feed::Feed;
 use crate::refused::Refused;
-use crate::statements::statements;
+use crate::statements::{TopStatements, statements};
 use crate::tokens::Tokens;
 use crate::told::Told;
 use starlark_grammar::build::Build;
@@ -70,7 +70,7 @@ fn program<B: Build>(tokens: &mut Tokens<'_>, dialect: &Dialect) -> Result<B::St
     ensures ended { IfOk result (λ x. (tokens.new.items ≡ []) × SameEnd tokens.old tokens.new) }
     ensures aside { IfErr result (λ e. fault_of e ≢ None → tokens.new.aside ≡ tokens.old.aside) }
 {
-    let statements = match statements::<B>(tokens, dialect) {
+    let TopStatements { items, are_clean } = match statements::<B>(tokens, dialect) {
         Ok(statements) => statements,
         Err(Error::Unexpected) => return Err(tokens.refusal()),
         Err(Error::Broken(rule)) => return Err(Refused::Rule(rule)),
@@ -79,7 +79,10 @@ fn program<B: Build>(tokens: &mut Tokens<'_>, dialect: &Dialect) -> Result<B::St
     if let Some(fault) = tokens.fault() {
         return Err(fault);
     }
-    let tree = block::<B>(statements, tokens.last());
+    let tree = block::<B>(items, tokens.last());
+    if are_clean {
+        return Ok(tree);
+    }
     match B::end_fault(tokens.alloc(), dialect, &tree)? {
         Some(rule) => Err(Refused::Rule(rule)),
         None => Ok(tree),

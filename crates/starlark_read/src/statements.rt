@@ -1,9 +1,11 @@
 //! The statements of a whole text.
 
-ghost use Rattle.std.specs.Prelude.{◌≡◌, [], IfOk};
+ghost use Rattle.std.specs.Prelude.{◌≡◌, ℕ, [], None, true, IfOk};
 ghost use Rattle.starlark_ast.specs.Tree.{no_statements};
+ghost use Rattle.starlark_grammar.specs.Events.{end_finding};
 ghost use Rattle.starlark_grammar.specs.Frames.{at_line, outer};
 ghost use Rattle.starlark_grammar.specs.Made.{sequence_of};
+ghost use Rattle.starlark_grammar.specs.Nodes.{block_of};
 ghost use Rattle.starlark_read.specs.Reads.{Comes};
 
 use crate::error::Error;
@@ -12,27 +14,60 @@ use crate::statement::statement;
 use crate::tokens::Tokens;
 use starlark_grammar::build::Build;
 use starlark_lexer::dialect::Dialect;
+use std::alloc::{AllocError, Global};
 
-/// The statements of a text, up to its end or to the lexer's fault.
+/// The statements of a text.
+pub(crate) struct TopStatements<S> {
+    pub(crate) items: Vec<S>,
+    /// Each of them was looked at, and breaks no rule that counts at the end.
+    pub(crate) are_clean: bool,
+}
+
+/// The statements of a text, up to its end or to the lexer's fault. Each is looked at as soon as it is read, while it is
+/// at hand: a tree that has grown large is slow to go through.
 pub(crate) fn statements<B: Build>(
     tokens: &mut Tokens<'_>,
     dialect: &Dialect,
-) -> Result<Vec<B::Stmt>, Error>
-    ensures reads { Comes dialect.now (at_line (outer no_statements) tokens.old.last) (λ xs. at_line (outer (sequence_of B.says xs.items)) tokens.new.last) tokens.old result tokens.new }
+) -> Result<TopStatements<B::Stmt>, Error>
+    ensures reads { Comes dialect.now (at_line (outer no_statements) tokens.old.last) (λ xs. at_line (outer (sequence_of B.says xs.items.items)) tokens.new.last) tokens.old result tokens.new }
     ensures whole { IfOk result (λ xs. tokens.new.items ≡ []) }
+    ensures clean { IfOk result (λ xs. xs.are_clean ≡ true → (e : ℕ) → end_finding dialect.now (block_of (sequence_of B.says xs.items.items) e) ≡ None) }
 {
     let mut found = Vec::new(tokens.alloc());
+    let mut are_clean = true;
     loop {
         if tokens.accept(Kind::Newline)? {
             continue;
         }
         match tokens.kind() {
-            Kind::End => return Ok(found),
+            Kind::End => {
+                return Ok(TopStatements {
+                    items: found,
+                    are_clean,
+                });
+            }
             Kind::Dedent => return Err(Error::Unexpected),
             _ => {
                 let next = statement::<B>(tokens, dialect)?;
+                are_clean = still_clean::<B>(tokens.alloc(), dialect, are_clean, &next)?;
                 found.push(next)?;
             }
         }
     }
+}
+
+/// Whether a statement breaks no rule that counts at the end, and those before it did not, as `before` says.
+fn still_clean<B: Build>(
+    alloc: Global,
+    dialect: &Dialect,
+    before: bool,
+    s: &B::Stmt,
+) -> Result<bool, AllocError>
+    ensures { IfOk result (λ b. b ≡ true → (before ≡ true) × (end_finding dialect.now (B.says s.now) ≡ None)) }
+{
+    if !before {
+        return Ok(false);
+    }
+    let found = B::end_fault(alloc, dialect, s)?;
+    Ok(found.is_none())
 }

@@ -1,5 +1,6 @@
 use Rattle.std.proofs.Common.{rules, refl, ap, sym, ◌∙◌}
 use Rattle.starlark_rulebook.specs.View.{maybe_finding}
+use Rattle.starlark_grammar.specs.Events.{end_finding}
 use Rattle.starlark_grammar.specs.Made.{sequence_of}
 use Rattle.starlark_grammar.specs.Nodes.{block_of}
 use Rattle.starlark_read.proofs.Answering.{broken_from, fault_is, fine_is, given, read_as, read_from, spoilt_is, stuck_from}
@@ -16,15 +17,24 @@ returns-in-Some-clause-refused g c l a w = given c.in-Some.ensures.1 (fault_is (
 
 pub returns-in-Some-2-clause-refused : goal.returns-in-Some-2-clause-refused
 returns-in-Some-2-clause-refused g c l a w =
-    let ss = sequence_of g.B.Make.says c.in-Ok.statements.items in
+    let ss = sequence_of g.B.Make.says c.in-Ok.statements.items.items in
     let r = read_as (g.B.Make.says c.block-tree.result) (read_from _ ss w (c.statements.ensures.reads.comes c.in-Ok.statements (search rules)) c.in-Ok.ensures.whole) (c.block-tree.ensures ∙ ap (block_of ss) c.last.ensures) in
     given refl (spoilt_is c.in-Some-2.rule r (c.in_default.ensures c.in-Ok.ensures.whole) (sym c.in_ok-rule.ensures ∙ ap maybe_finding c.in-Some-2.is))
 
 pub returns-in-None-clause-whole : goal.returns-in-None-clause-whole
 returns-in-None-clause-whole g c l a w =
-    let ss = sequence_of g.B.Make.says c.in-Ok.statements.items in
+    let ss = sequence_of g.B.Make.says c.in-Ok.statements.items.items in
     let r = read_as (g.B.Make.says c.block-tree.result) (read_from _ ss w (c.statements.ensures.reads.comes c.in-Ok.statements (search rules)) c.in-Ok.ensures.whole) (c.block-tree.ensures ∙ ap (block_of ss) c.last.ensures) in
     fine_is r (c.in_default.ensures c.in-Ok.ensures.whole) (sym c.in_ok-rule.ensures ∙ ap maybe_finding c.in-None.is)
+
+pub returns-then-are_clean-clause-whole : goal.returns-then-are_clean-clause-whole
+returns-then-are_clean-clause-whole g c l a w =
+    let ss = sequence_of g.B.Make.says c.in-Ok.statements.items.items in
+    let r = read_as (g.B.Make.says c.block-tree.result) (read_from _ ss w (c.statements.ensures.reads.comes c.in-Ok.statements (search rules)) c.in-Ok.ensures.whole) (c.block-tree.ensures ∙ ap (block_of ss) c.last.ensures) in
+    fine_is r (c.in_default.ensures c.in-Ok.ensures.whole) (ap (end_finding _) c.block-tree.ensures ∙ c.in-Ok.ensures.clean c.if-are_clean.true _)
+
+pub returns-then-are_clean-clause-ended : goal.returns-then-are_clean-clause-ended
+returns-then-are_clean-clause-ended g c = (c.in-Ok.ensures.whole, (c.statements.ensures.reads.comes c.in-Ok.statements (search rules)).behind)
 
 pub returns-in-None-clause-ended : goal.returns-in-None-clause-ended
 returns-in-None-clause-ended g c = (c.in-Ok.ensures.whole, (c.statements.ensures.reads.comes c.in-Ok.statements (search rules)).behind)

@@ -1,8 +1,9 @@
-use Rattle.std.proofs.Common.{refl, ap, sym, ◌∙◌, rules}
+use Rattle.std.proofs.Common.{refl, ap, subst, sym, ◌∙◌, rules}
 use Rattle.starlark_lexer.specs.Items.{newline}
 use Rattle.starlark_read.specs.declared.kind.Kind.TheVariants as kind
 use Rattle.starlark_grammar.specs.Frames.{at_line, outer}
 use Rattle.starlark_grammar.specs.Made.{sequence_of}
+use Rattle.starlark_read.proofs.Cleaning.{Clean, clean_ends, clean_more}
 use Rattle.starlark_read.proofs.Exits.{◌>>◌, exits, goes, left_it, read_it, refuses, renamed, state_is, sticks}
 use Rattle.starlark_read.proofs.Plain.{stands, stands_not}
 use Rattle.starlark_read.proofs.Rows.{no_suite_end, some_there, statement_more}
@@ -10,13 +11,19 @@ use Rattle.starlark_read.proofs.Suffixing.{unlike}
 use Rattle.starlark_read.proofs.statements.statements.Goals as goal
 
 pub loop-found-preserved-then-branch : goal.loop-found-preserved-then-branch
-loop-found-preserved-then-branch g c = c.loop-found.invariant >> goes (read_it _ _ newline _ c.if-branch.true c.in_ok-accept.ensures) refl refl
+loop-found-preserved-then-branch g c = record {
+  reads = c.loop-found.invariant.reads >> goes (read_it _ _ newline _ c.if-branch.true c.in_ok-accept.ensures) refl refl;
+  clean = c.loop-found.invariant.clean;
+}
+
+pub returns-in-End-clause-clean : goal.returns-in-End-clause-clean
+returns-in-End-clause-clean g c h e = clean_ends _ e (c.loop-found.invariant.clean h)
 
 pub returns-in-Dedent-clause-reads : goal.returns-in-Dedent-clause-reads
 returns-in-Dedent-clause-reads g c =
     let n = left_it _ _ newline _ c.if-branch.false c.in_ok-accept.ensures in
     let ss = sequence_of g.B.Make.says c.loop-found.found.items in
-    refuses (sticks (c.loop-found.invariant >> renamed n.0) (no_suite_end ss _ _ (stands _ kind.Dedent refl (sym c.kind.ensures ∙ c.in-Dedent.is))))
+    refuses (sticks (c.loop-found.invariant.reads >> renamed n.0) (no_suite_end ss _ _ (stands _ kind.Dedent refl (sym c.kind.ensures ∙ c.in-Dedent.is))))
 
 pub returns-in_err-next-in_default : goal.returns-in_err-next-in_default
 returns-in_err-next-in_default g c =
@@ -25,8 +32,9 @@ returns-in_err-next-in_default g c =
     let there = some_there _ (λ h. c.in_default.not-End (c.kind.ensures ∙ h)) in
     let inside = stands_not _ kind.Dedent refl (λ h. c.in_default.not-Dedent (c.kind.ensures ∙ h)) in
     record {
-      reads = exits (search rules) (c.loop-found.invariant >> renamed n.0) (c.in_err-next-in_default.ensures.reads (outer ss) _ there (unlike n.0 n.1) inside);
+      reads = exits (search rules) (c.loop-found.invariant.reads >> renamed n.0) (c.in_err-next-in_default.ensures.reads (outer ss) _ there (unlike n.0 n.1) inside);
       whole = search rules;
+      clean = search rules;
     }
 
 pub loop-found-preserved : goal.loop-found-preserved
@@ -37,4 +45,7 @@ loop-found-preserved g c =
     let there = some_there _ (λ h. c.in_default.not-End (c.kind.ensures ∙ h)) in
     let inside = stands_not _ kind.Dedent refl (λ h. c.in_default.not-Dedent (c.kind.ensures ∙ h)) in
     let more = statement_more f _ _ _ c.in_ok-push-in_default.ensures.items in
-    state_is (c.loop-found.invariant >> renamed n.0 >> (c.in_ok-next-in_default.ensures.reads (outer ss) _ there (unlike n.0 n.1) inside).comes _ refl) (ap (λ z. at_line (outer z) c.statement.new.tokens.last) (sym more))
+    record {
+      reads = state_is (c.loop-found.invariant.reads >> renamed n.0 >> (c.in_ok-next-in_default.ensures.reads (outer ss) _ there (unlike n.0 n.1) inside).comes _ refl) (ap (λ z. at_line (outer z) c.statement.new.tokens.last) (sym more));
+      clean = λ h. let both = c.in_ok-are_clean-in_default.ensures h in subst (Clean _) (sym more) (clean_more _ (c.loop-found.invariant.clean both.0) both.1);
+    }
