@@ -13,6 +13,7 @@ ghost use Rattle.starlark_read.specs.Reads.{Comes, first_lexeme};
 use crate::error::Error;
 use crate::expression::expression;
 use crate::kind::Kind;
+use crate::level::{TEST, UNARY};
 use crate::operators::operators;
 use crate::suffixes::suffixes;
 use crate::tokens::Tokens;
@@ -59,19 +60,19 @@ fn argument<B: Build>(tokens: &mut Tokens<'_>) -> Result<B::Argument, Error>
 {
     let begin = tokens.begin();
     if tokens.accept(Kind::Star)? {
-        let value = expression::<B>(tokens, 12)?;
+        let value = expression::<B>(tokens, TEST)?;
         let span = tokens.since(begin);
         return Ok(B::args(value, span));
     }
     if tokens.accept(Kind::StarStar)? {
-        let value = expression::<B>(tokens, 12)?;
+        let value = expression::<B>(tokens, TEST)?;
         let span = tokens.since(begin);
         return Ok(B::kwargs(value, span));
     }
     if let Some(name) = tokens.identifier()? {
         return behind_name::<B>(tokens, name);
     }
-    let value = expression::<B>(tokens, 12)?;
+    let value = expression::<B>(tokens, TEST)?;
     let span = tokens.since(begin);
     Ok(B::positional(value, span))
 }
@@ -88,13 +89,13 @@ fn behind_name<B: Build>(
 {
     let begin = name.span.begin();
     if tokens.accept(Kind::Equal)? {
-        let value = expression::<B>(tokens, 12)?;
+        let value = expression::<B>(tokens, TEST)?;
         let span = tokens.since(begin);
         return Ok(B::named(name, value, span));
     }
     let left = B::name(name.node, name.span);
     let left = suffixes::<B>(tokens, left)?;
-    let value = operators::<B>(tokens, left, 1, 12)?;
+    let value = operators::<B>(tokens, left, UNARY, TEST)?;
     let span = tokens.since(begin);
     Ok(B::positional(value, span))
 }

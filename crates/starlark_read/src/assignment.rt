@@ -14,6 +14,7 @@ ghost use Rattle.starlark_read.specs.Reads.{Comes, first_lexeme};
 use crate::error::Error;
 use crate::expression::expression;
 use crate::kind::Kind;
+use crate::level::TEST;
 use crate::listed::{listed, listed_behind};
 use crate::tokens::Tokens;
 use crate::types::type_expression;
@@ -30,15 +31,15 @@ pub(crate) fn assignment<B: Build>(
     ensures shorter { OnOk result (length tokens.new.items < length tokens.old.items) }
 {
     let begin = tokens.begin();
-    let first = expression::<B>(tokens, 12)?;
+    let first = expression::<B>(tokens, TEST)?;
     if tokens.stands(Kind::Semicolon) || tokens.stands(Kind::Newline) {
         let span = tokens.since(begin);
         return Ok(B::expression_statement(first, span));
     }
-    let left = listed_behind::<B>(tokens, 12, begin, first)?;
+    let left = listed_behind::<B>(tokens, TEST, begin, first)?;
     let ty = annotation::<B>(tokens, dialect)?;
     let op = operator(tokens)?;
-    let right = listed::<B>(tokens, 12)?;
+    let right = listed::<B>(tokens, TEST)?;
     if let Some(fault) = B::assignment_fault(&left, &ty, op) {
         return Err(Error::Broken(fault));
     }

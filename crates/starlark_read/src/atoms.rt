@@ -15,6 +15,7 @@ use crate::error::Error;
 use crate::expression::expression;
 use crate::f_string::{f_string, opens_f_string};
 use crate::kind::Kind;
+use crate::level::TEST;
 use crate::tokens::Tokens;
 use starlark_grammar::build::Build;
 use starlark_lexer::token::Token;
@@ -88,7 +89,7 @@ fn parenthesized<B: Build>(tokens: &mut Tokens<'_>, opening: Pos) -> Result<B::E
         return Ok(B::tuple(none, tokens.since(opening)));
     }
     let begin = tokens.begin();
-    let first = expression::<B>(tokens, 12)?;
+    let first = expression::<B>(tokens, TEST)?;
     if tokens.accept(Kind::Comma)? {
         let (members, span) = members_behind::<B>(tokens, Kind::ClosingRound, begin, first)?;
         return Ok(B::tuple(members, span));
@@ -109,7 +110,7 @@ fn list<B: Build>(tokens: &mut Tokens<'_>, opening: Pos) -> Result<B::Expr, Erro
         return Ok(B::list(one, tokens.since(opening)));
     }
     let begin = tokens.begin();
-    let first = expression::<B>(tokens, 12)?;
+    let first = expression::<B>(tokens, TEST)?;
     if tokens.accept(Kind::For)? {
         let (over, rest) = clauses::<B>(tokens, Kind::ClosingSquare)?;
         let span = tokens.since(opening);

@@ -17,6 +17,7 @@ ghost use Rattle.starlark_read.specs.Reads.{Comes, first_lexeme};
 use crate::error::Error;
 use crate::expression::expression;
 use crate::kind::Kind;
+use crate::level::TEST;
 use crate::tokens::Tokens;
 use starlark_grammar::build::Build;
 use starlark_place::pos::{Pos, Span};
@@ -41,7 +42,7 @@ pub(crate) fn members_behind<B: Build>(
         if tokens.accept(closing)? {
             return Ok((members, span));
         }
-        let next = expression::<B>(tokens, 12)?;
+        let next = expression::<B>(tokens, TEST)?;
         members.push(next)?;
         let span = tokens.since(begin);
         if !tokens.accept(Kind::Comma)? {
@@ -57,9 +58,9 @@ pub(crate) fn pair<B: Build>(tokens: &mut Tokens<'_>) -> Result<(B::Expr, B::Exp
     ensures reads { (d : Dialect) (b : ℕ) (ms : tree.Members) (t : Bool) (e f : ℕ) (k : Frames) → first_lexeme tokens.old.items ≢ Some closing_curly → Comes d (stands (member_wanted (brackets curly b) ms t e f) k) (λ x. stands (member_read (brackets curly b) (tree.more ms (tree.pair (B.means x.0) (B.means x.1))) tokens.new.last (first_at ms f (start tokens.old.items))) k) tokens.old result tokens.new }
     ensures shorter { OnOk result (length tokens.new.items < length tokens.old.items) }
 {
-    let key = expression::<B>(tokens, 12)?;
+    let key = expression::<B>(tokens, TEST)?;
     tokens.expect(Kind::Colon)?;
-    let value = expression::<B>(tokens, 12)?;
+    let value = expression::<B>(tokens, TEST)?;
     Ok((key, value))
 }
 

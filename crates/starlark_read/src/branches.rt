@@ -8,6 +8,7 @@ ghost use Rattle.starlark_read.specs.Reads.{Comes};
 use crate::error::Error;
 use crate::expression::expression;
 use crate::kind::Kind;
+use crate::level::TEST;
 use crate::suite::suite;
 use crate::tokens::Tokens;
 use starlark_grammar::build::Build;
@@ -25,7 +26,7 @@ pub(crate) fn branches<B: Build>(
     ensures shorter { OnOk result (length tokens.new.items < length tokens.old.items) }
 {
     let alloc = tokens.alloc();
-    let condition = expression::<B>(tokens, 12)?;
+    let condition = expression::<B>(tokens, TEST)?;
     tokens.expect(Kind::Colon)?;
     let body = suite::<B>(tokens, dialect)?;
     let next = tokens.begin();

@@ -14,6 +14,7 @@ ghost use Rattle.starlark_read.specs.Reads.{Comes};
 use crate::error::Error;
 use crate::expression::expression;
 use crate::kind::Kind;
+use crate::level::{BIT_OR, OR};
 use crate::listed::listed;
 use crate::tokens::Tokens;
 use starlark_grammar::build::Build;
@@ -35,7 +36,7 @@ pub(crate) fn clauses<B: Build>(
             let next = for_clause::<B>(tokens)?;
             rest.push(B::next_for(next))?;
         } else if tokens.accept(Kind::If)? {
-            let condition = expression::<B>(tokens, 11)?;
+            let condition = expression::<B>(tokens, OR)?;
             rest.push(B::if_clause(condition))?;
         } else {
             tokens.expect(closing)?;
@@ -50,9 +51,9 @@ fn for_clause<B: Build>(tokens: &mut Tokens<'_>) -> Result<B::ForClause, Error>
     ensures reads { (d : Dialect) (p : Bracket) (b : ℕ) (m : tree.Member) (cs : tree.Clauses) (k : Frames) → Comes d (stands (member_wanted (targets_in p b m cs) tree.none false 0 0) k) (λ x. stands (clauses_read p b m (tree.and_clause cs (B.for_means x))) k) tokens.old result tokens.new }
     ensures shorter { OnOk result (length tokens.new.items < length tokens.old.items) }
 {
-    let targets = listed::<B>(tokens, 7)?;
+    let targets = listed::<B>(tokens, BIT_OR)?;
     tokens.expect(Kind::In)?;
-    let over = expression::<B>(tokens, 11)?;
+    let over = expression::<B>(tokens, OR)?;
     if let Some(fault) = B::target_fault(&targets) {
         return Err(Error::Broken(fault));
     }

@@ -8,6 +8,7 @@ ghost use Rattle.starlark_read.specs.Reads.{Comes};
 use crate::atoms::atom;
 use crate::error::Error;
 use crate::kind::Kind;
+use crate::level::{PRIMARY, UNARY};
 use crate::operators::operators;
 use crate::signs::{lambda, level_ahead, sign, signed};
 use crate::suffixes::suffixes;
@@ -23,10 +24,10 @@ pub(crate) fn expression<B: Build>(tokens: &mut Tokens<'_>, level: u8) -> Result
 {
     let begin = tokens.begin();
     let floor = level_ahead(tokens, level);
-    if floor == 0 {
+    if floor == PRIMARY {
         let left = atom::<B>(tokens)?;
         let left = suffixes::<B>(tokens, left)?;
-        return operators::<B>(tokens, left, 1, level);
+        return operators::<B>(tokens, left, UNARY, level);
     }
     if tokens.accept(Kind::Lambda)? {
         return lambda::<B>(tokens, begin);

@@ -14,6 +14,7 @@ ghost use Rattle.starlark_read.specs.Reads.{Comes, Goes};
 use crate::error::Error;
 use crate::expression::expression;
 use crate::kind::Kind;
+use crate::level::TEST;
 use crate::tokens::Tokens;
 use starlark_grammar::build::Build;
 use starlark_lexer::token::Token;
@@ -105,7 +106,7 @@ fn field<B: Build>(tokens: &mut Tokens<'_>, format: &mut String) -> Result<B::Ex
     ensures reads { (d : Dialect) (b : ℕ) (ms : tree.Members) (k : Frames) → Comes d (wants 12 (inside (field b (string_bytes format.old) ms) k)) (λ x. stands (piece_wanted b (string_bytes format.new) (tree.more ms (tree.item (B.means x)))) k) tokens.old result tokens.new }
     ensures shorter { OnOk result (length tokens.new.items < length tokens.old.items) }
 {
-    let found = expression::<B>(tokens, 12)?;
+    let found = expression::<B>(tokens, TEST)?;
     if tokens.accept(Kind::FStringExprEnd)? {
         format.push_str("{}")?;
         return Ok(found);

@@ -8,6 +8,7 @@ ghost use Rattle.starlark_read.specs.Reads.{Comes};
 use crate::error::Error;
 use crate::expression::expression;
 use crate::kind::Kind;
+use crate::level::{BIT_OR, TEST};
 use crate::listed::listed;
 use crate::suite::suite;
 use crate::tokens::Tokens;
@@ -25,9 +26,9 @@ pub(crate) fn for_loop<B: Build>(
     ensures reads { (k : Blocks) → Comes dialect.now (wants_list (target begin k)) (λ x. at_line (push k (B.says x)) tokens.new.last) tokens.old result tokens.new }
     ensures shorter { OnOk result (length tokens.new.items < length tokens.old.items) }
 {
-    let targets = listed::<B>(tokens, 7)?;
+    let targets = listed::<B>(tokens, BIT_OR)?;
     tokens.expect(Kind::In)?;
-    let over = expression::<B>(tokens, 12)?;
+    let over = expression::<B>(tokens, TEST)?;
     tokens.expect(Kind::Colon)?;
     let body = suite::<B>(tokens, dialect)?;
     if let Some(fault) = B::target_fault(&targets) {

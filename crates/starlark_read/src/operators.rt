@@ -13,6 +13,7 @@ ghost use Rattle.starlark_read.specs.Reads.{Comes, grade_ahead, operator_ahead};
 use crate::error::Error;
 use crate::expression::expression;
 use crate::kind::Kind;
+use crate::level::{COMPARISON, NOT, OR, TEST};
 use crate::tokens::Tokens;
 use starlark_ast::ast::BinOp;
 use starlark_grammar::build::Build;
@@ -59,9 +60,9 @@ fn choice<B: Build>(tokens: &mut Tokens<'_>, value: B::Expr) -> Result<B::Expr, 
     ensures reads { (d : Dialect) (k : Frames) → Comes d (wants 11 (inside (condition (B.means value)) k)) (λ x. has (B.means x) tokens.new.last k) tokens.old result tokens.new }
     ensures shorter { OnOk result (length tokens.new.items < length tokens.old.items) }
 {
-    let condition = expression::<B>(tokens, 11)?;
+    let condition = expression::<B>(tokens, OR)?;
     tokens.expect(Kind::Else)?;
-    let otherwise = expression::<B>(tokens, 12)?;
+    let otherwise = expression::<B>(tokens, TEST)?;
     let span = tokens.since(B::place(&value).begin());
     Ok(B::choice(tokens.alloc(), condition, value, otherwise, span)?)
 }
@@ -126,5 +127,5 @@ fn floor_behind(level: u8) -> u8
     requires { level < 12 }
     ensures { result ≡ if associates level then level else suc level }
 {
-    if level == 8 { 9 } else { level }
+    if level == COMPARISON { NOT } else { level }
 }

@@ -13,6 +13,7 @@ ghost use Rattle.starlark_read.specs.Reads.{Comes, first_lexeme};
 use crate::error::Error;
 use crate::expression::expression;
 use crate::kind::Kind;
+use crate::level::TEST;
 use crate::names::name;
 use crate::tokens::Tokens;
 use starlark_grammar::build::Build;
@@ -71,7 +72,7 @@ fn parameter<B: Build>(tokens: &mut Tokens<'_>) -> Result<B::Parameter, Error>
     };
     let span = tokens.since(begin);
     if tokens.accept(Kind::Equal)? {
-        let default = expression::<B>(tokens, 12)?;
+        let default = expression::<B>(tokens, TEST)?;
         let span = tokens.since(begin);
         return Ok(B::parameter(alloc, name, None, Some(default), span)?);
     }

@@ -15,6 +15,7 @@ ghost use Rattle.starlark_grammar.specs.Spans.{stretch};
 use crate::error::Error;
 use crate::expression::expression;
 use crate::kind::Kind;
+use crate::level::TEST;
 use crate::names::name;
 use crate::tokens::Tokens;
 use crate::types::type_expression;
@@ -136,7 +137,7 @@ fn default_value<B: Build>(tokens: &mut Tokens<'_>) -> Result<Option<B::Expr>, E
     ensures shorter { OnOk result (length tokens.new.items ≤ length tokens.old.items) }
 {
     if tokens.accept(Kind::Equal)? {
-        Ok(Some(expression::<B>(tokens, 12)?))
+        Ok(Some(expression::<B>(tokens, TEST)?))
     } else {
         Ok(None)
     }

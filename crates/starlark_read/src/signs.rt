@@ -14,6 +14,7 @@ ghost use Rattle.starlark_read.specs.Reads.{Comes, begins_ahead, first_lexeme, s
 use crate::error::Error;
 use crate::expression::expression;
 use crate::kind::Kind;
+use crate::level::{NOT, PRIMARY, TEST, UNARY};
 use crate::parameters::lambda_parameters;
 use crate::tokens::Tokens;
 use starlark_grammar::build::Build;
@@ -48,25 +49,25 @@ fn sign_ahead(tokens: &Tokens<'_>) -> Option<Sign>
     }
 }
 
-/// The level of the sign or the lambda that stands ahead, or 0 where none stands there that an expression of a level
-/// begins with.
+/// The level of the sign or the lambda that stands ahead, or `PRIMARY` where none stands there that an expression of a
+/// level begins with.
 pub(crate) fn level_ahead(tokens: &Tokens<'_>, level: u8) -> u8
     ensures none { result ≡ 0 → (begins_ahead tokens.now.items ≡ 0) ⊎ (level < begins_ahead tokens.now.items) }
     ensures some { result ≢ 0 → (begins_ahead tokens.now.items ≡ result) × (result ≤ level) }
 {
     let floor = begins_at(tokens);
-    if level < floor { 0 } else { floor }
+    if level < floor { PRIMARY } else { floor }
 }
 
-// the level of the sign or the lambda that stands ahead, or 0
+// the level of the sign or the lambda that stands ahead, or `PRIMARY`
 fn begins_at(tokens: &Tokens<'_>) -> u8
     ensures { result ≡ begins_ahead tokens.now.items }
 {
     match tokens.kind() {
-        Kind::Minus | Kind::Plus | Kind::Tilde => 1,
-        Kind::Not => 9,
-        Kind::Lambda => 12,
-        _ => 0,
+        Kind::Minus | Kind::Plus | Kind::Tilde => UNARY,
+        Kind::Not => NOT,
+        Kind::Lambda => TEST,
+        _ => PRIMARY,
     }
 }
 
@@ -94,7 +95,7 @@ pub(crate) fn lambda<B: Build>(tokens: &mut Tokens<'_>, begin: Pos) -> Result<B:
     ensures shorter { OnOk result (length tokens.new.items < length tokens.old.items) }
 {
     let parameters = lambda_parameters::<B>(tokens)?;
-    let body = expression::<B>(tokens, 12)?;
+    let body = expression::<B>(tokens, TEST)?;
     let span = tokens.since(begin);
     Ok(B::lambda(tokens.alloc(), parameters, body, span)?)
 }

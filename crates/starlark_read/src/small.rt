@@ -9,6 +9,7 @@ ghost use Rattle.starlark_read.specs.Reads.{Comes, first_lexeme};
 use crate::assignment::assignment;
 use crate::error::Error;
 use crate::kind::Kind;
+use crate::level::TEST;
 use crate::listed::listed;
 use crate::load::load;
 use crate::tokens::Tokens;
@@ -48,6 +49,6 @@ fn behind_return<B: Build>(tokens: &mut Tokens<'_>, begin: Pos) -> Result<B::Stm
     if !tokens.begins_test() {
         return Ok(B::return_statement(None, tokens.since(begin)));
     }
-    let value = listed::<B>(tokens, 12)?;
+    let value = listed::<B>(tokens, TEST)?;
     Ok(B::return_statement(Some(value), tokens.since(begin)))
 }

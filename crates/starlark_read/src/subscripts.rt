@@ -12,6 +12,7 @@ ghost use Rattle.starlark_read.specs.Reads.{Comes, bound_at, first_lexeme};
 use crate::error::Error;
 use crate::expression::expression;
 use crate::kind::Kind;
+use crate::level::TEST;
 use crate::tokens::Tokens;
 use starlark_grammar::build::Build;
 
@@ -27,7 +28,7 @@ pub(crate) fn subscript<B: Build>(
     if tokens.accept(Kind::Colon)? {
         return slice::<B>(tokens, object, None);
     }
-    let first = expression::<B>(tokens, 12)?;
+    let first = expression::<B>(tokens, TEST)?;
     if tokens.accept(Kind::Comma)? {
         return index_of_two::<B>(tokens, object, first);
     }
@@ -49,7 +50,7 @@ fn index_of_two<B: Build>(
     ensures reads { (d : Dialect) (k : Frames) → Comes d (wants 12 (inside (second (B.means object) (B.means first)) k)) (λ x. has (B.means x) tokens.new.last k) tokens.old result tokens.new }
     ensures shorter { OnOk result (length tokens.new.items < length tokens.old.items) }
 {
-    let second = expression::<B>(tokens, 12)?;
+    let second = expression::<B>(tokens, TEST)?;
     tokens.expect(Kind::ClosingSquare)?;
     let span = tokens.since(B::place(&object).begin());
     Ok(B::index_of_two(tokens.alloc(), object, first, second, span)?)
@@ -104,5 +105,5 @@ fn bound<B: Build>(tokens: &mut Tokens<'_>) -> Result<Option<B::Expr>, Error>
     if tokens.stands(Kind::ClosingSquare) {
         return Ok(None);
     }
-    Ok(Some(expression::<B>(tokens, 12)?))
+    Ok(Some(expression::<B>(tokens, TEST)?))
 }

@@ -21,6 +21,9 @@ use crate::cost::Cost;
 use crate::error::Error;
 use crate::feed::{Feed, Lookahead};
 use crate::kind::{Kind, kind_of};
+use crate::level::{
+    AND, BIT_AND, BIT_OR, BIT_XOR, COMPARISON, NONE, OR, PRIMARY, PRODUCT, SHIFT, SUM, TEST,
+};
 use crate::refused::Refused;
 use crate::told::Comments;
 use starlark_lexer::token::Token;
@@ -175,24 +178,24 @@ impl<'a> Tokens<'a> {
         }
     }
 
-    /// The level of the suffix or the operator that stands ahead, or 13.
+    /// The level of the suffix or the operator that stands ahead, or `NONE`.
     pub(crate) fn grade(&self) -> u8
         ensures { result ≡ grade_ahead self.now.items }
     {
         match self.kind() {
-            Kind::Dot | Kind::OpeningRound | Kind::OpeningSquare => 0,
-            Kind::Star | Kind::Slash | Kind::SlashSlash | Kind::Percent => 2,
-            Kind::Plus | Kind::Minus => 3,
-            Kind::LessLess | Kind::GreaterGreater => 4,
-            Kind::Ampersand => 5,
-            Kind::Caret => 6,
-            Kind::Pipe => 7,
-            Kind::EqualEqual | Kind::BangEqual | Kind::LessThan | Kind::GreaterThan => 8,
-            Kind::LessEqual | Kind::GreaterEqual | Kind::In | Kind::Not => 8,
-            Kind::And => 10,
-            Kind::Or => 11,
-            Kind::If => 12,
-            _ => 13,
+            Kind::Dot | Kind::OpeningRound | Kind::OpeningSquare => PRIMARY,
+            Kind::Star | Kind::Slash | Kind::SlashSlash | Kind::Percent => PRODUCT,
+            Kind::Plus | Kind::Minus => SUM,
+            Kind::LessLess | Kind::GreaterGreater => SHIFT,
+            Kind::Ampersand => BIT_AND,
+            Kind::Caret => BIT_XOR,
+            Kind::Pipe => BIT_OR,
+            Kind::EqualEqual | Kind::BangEqual | Kind::LessThan | Kind::GreaterThan => COMPARISON,
+            Kind::LessEqual | Kind::GreaterEqual | Kind::In | Kind::Not => COMPARISON,
+            Kind::And => AND,
+            Kind::Or => OR,
+            Kind::If => TEST,
+            _ => NONE,
         }
     }
 

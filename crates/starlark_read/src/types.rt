@@ -10,6 +10,7 @@ ghost use Rattle.starlark_read.specs.Reads.{Comes, IsType, type_read};
 
 use crate::error::Error;
 use crate::expression::expression;
+use crate::level::TEST;
 use crate::tokens::Tokens;
 use starlark_grammar::build::Build;
 use starlark_lexer::dialect::{Dialect, DialectTypes};
@@ -25,7 +26,7 @@ pub(crate) fn type_expression<B: Build>(
     ensures right { IfOk result (λ x. IsType dialect.now (B.type_means x)) }
     ensures shorter { OnOk result (length tokens.new.items < length tokens.old.items) }
 {
-    let found = expression::<B>(tokens, 12)?;
+    let found = expression::<B>(tokens, TEST)?;
     if !has_types(dialect) {
         return Err(Error::Broken(Spanned {
             span: B::place(&found),

@@ -24,25 +24,25 @@ use Rattle.starlark_read.proofs.Naming.{body_as, slash_read, star_begins, stars_
 use Rattle.starlark_read.proofs.+expression.Goals as goal
 
 pub expression::expression-returns-in_err-left-clause-reads : goal.expression::expression-returns-in_err-left-clause-reads
-expression::expression-returns-in_err-left-clause-reads g met c d k = exits (search rules) (plain_begins c.args.level k _ (c.level_ahead-floor.ensures.none c.if-floor-eq0.true)) (c.in_err-left.ensures.reads d (tails c.args.level 1 k))
+expression::expression-returns-in_err-left-clause-reads g met c d k = exits (search rules) (plain_begins c.args.level k _ (c.level_ahead-floor.ensures.none c.if-floor-eq-PRIMARY.true)) (c.in_err-left.ensures.reads d (tails c.args.level 1 k))
 
 pub expression::expression-returns-in_err-left-2-clause-reads : goal.expression::expression-returns-in_err-left-2-clause-reads
-expression::expression-returns-in_err-left-2-clause-reads g met c d k = exits (search rules) (plain_begins c.args.level k _ (c.level_ahead-floor.ensures.none c.if-floor-eq0.true) >> (c.in_ok-left.ensures.reads d (tails c.args.level 1 k)).comes _ refl) (c.in_err-left-2.ensures.reads d (tails c.args.level 1 k))
+expression::expression-returns-in_err-left-2-clause-reads g met c d k = exits (search rules) (plain_begins c.args.level k _ (c.level_ahead-floor.ensures.none c.if-floor-eq-PRIMARY.true) >> (c.in_ok-left.ensures.reads d (tails c.args.level 1 k)).comes _ refl) (c.in_err-left-2.ensures.reads d (tails c.args.level 1 k))
 
-pub expression::expression-returns-then-floor-eq0-clause-reads : goal.expression::expression-returns-then-floor-eq0-clause-reads
-expression::expression-returns-then-floor-eq0-clause-reads g met c d k = behind_it (plain_begins c.args.level k _ (c.level_ahead-floor.ensures.none c.if-floor-eq0.true) >> (c.in_ok-left.ensures.reads d (tails c.args.level 1 k)).comes _ refl >> (c.in_ok-left-2.ensures.reads d (tails c.args.level 1 k)).comes _ refl) (c.operators.ensures.reads d c.args.level k (omega arith))
+pub expression::expression-returns-then-floor-eq-PRIMARY-clause-reads : goal.expression::expression-returns-then-floor-eq-PRIMARY-clause-reads
+expression::expression-returns-then-floor-eq-PRIMARY-clause-reads g met c d k = behind_it (plain_begins c.args.level k _ (c.level_ahead-floor.ensures.none c.if-floor-eq-PRIMARY.true) >> (c.in_ok-left.ensures.reads d (tails c.args.level 1 k)).comes _ refl >> (c.in_ok-left-2.ensures.reads d (tails c.args.level 1 k)).comes _ refl) (c.operators.ensures.reads d c.args.level k (omega arith))
 
 pub expression::expression-returns-then-branch-clause-reads : goal.expression::expression-returns-then-branch-clause-reads
 expression::expression-returns-then-branch-clause-reads g met c d k =
     let p = read_it _ _ keyword_lambda _ c.if-branch.true c.in_ok-accept.ensures in
-    let h = c.level_ahead-floor.ensures.some c.if-floor-eq0.false in
+    let h = c.level_ahead-floor.ensures.some c.if-floor-eq-PRIMARY.false in
     let t = ap begins_ahead p.items in
     behind_it (lambda_begins c.args.level c.begin-begin.result k (omega (arith, t, h.0, h.1, c.requires)) (sym c.begin-begin.ensures) p) (c.lambda.ensures.reads d k)
 
 pub expression::expression-returns-in_err-sign-clause-reads : goal.expression::expression-returns-in_err-sign-clause-reads
 expression::expression-returns-in_err-sign-clause-reads g met c d k =
     let a = left_it _ _ keyword_lambda _ c.if-branch.false c.in_ok-accept.ensures in
-    let h = c.level_ahead-floor.ensures.some c.if-floor-eq0.false in
+    let h = c.level_ahead-floor.ensures.some c.if-floor-eq-PRIMARY.false in
     let n = c.args.level - c.level_ahead-floor.result in
     let e : c.args.level ≡ n + c.level_ahead-floor.result = omega (arith, h.1) in
     exits (search rules) (state_is (renamed a.0) (ap (λ z. wants z k) e)) (c.in_err-sign.ensures.reads d n k)
@@ -50,7 +50,7 @@ expression::expression-returns-in_err-sign-clause-reads g met c d k =
 pub expression::expression-returns-in_err-left-3-clause-reads : goal.expression::expression-returns-in_err-left-3-clause-reads
 expression::expression-returns-in_err-left-3-clause-reads g met c d k =
     let a = left_it _ _ keyword_lambda _ c.if-branch.false c.in_ok-accept.ensures in
-    let h = c.level_ahead-floor.ensures.some c.if-floor-eq0.false in
+    let h = c.level_ahead-floor.ensures.some c.if-floor-eq-PRIMARY.false in
     let n = c.args.level - c.level_ahead-floor.result in
     let e : c.args.level ≡ n + c.level_ahead-floor.result = omega (arith, h.1) in
     exits (search rules) (state_is (state_is (renamed a.0) (ap (λ z. wants z k) e) >> (c.in_ok-sign.ensures.reads d n k).comes _ refl) (ap (λ b. wants c.level_ahead-floor.result (inside (behind_sign (sign_of c.in_ok-sign.sign) b) (tails (suc n) c.level_ahead-floor.result k))) (ap (λ ts. start ts.items) a.0 ∙ sym c.begin-begin.ensures))) (c.in_err-left-3.ensures.reads d (tails (suc n) c.level_ahead-floor.result k))
@@ -58,7 +58,7 @@ expression::expression-returns-in_err-left-3-clause-reads g met c d k =
 pub expression::expression-returns-clause-reads : goal.expression::expression-returns-clause-reads
 expression::expression-returns-clause-reads g met c d k =
     let a = left_it _ _ keyword_lambda _ c.if-branch.false c.in_ok-accept.ensures in
-    let h = c.level_ahead-floor.ensures.some c.if-floor-eq0.false in
+    let h = c.level_ahead-floor.ensures.some c.if-floor-eq-PRIMARY.false in
     let n = c.args.level - c.level_ahead-floor.result in
     let e : c.args.level ≡ n + c.level_ahead-floor.result = omega (arith, h.1) in
     behind_it (state_is (state_is (renamed a.0) (ap (λ z. wants z k) e) >> (c.in_ok-sign.ensures.reads d n k).comes _ refl) (ap (λ b. wants c.level_ahead-floor.result (inside (behind_sign (sign_of c.in_ok-sign.sign) b) (tails (suc n) c.level_ahead-floor.result k))) (ap (λ ts. start ts.items) a.0 ∙ sym c.begin-begin.ensures)) >> (c.in_ok-left-3.ensures.reads d (tails (suc n) c.level_ahead-floor.result k)).comes _ refl) (c.operators-2.ensures.reads d (suc n) k (omega (arith, h.1)))
