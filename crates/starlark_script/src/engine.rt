@@ -10,7 +10,7 @@ ghost use Rattle.starlark_script.specs.Engine.{Answers, HaveOutlines, Wrote, Wro
 use crate::ahead::Ahead;
 use crate::device::{Sink, Source};
 use crate::fault::{End, RunFault};
-use crate::reading::{Asked, Request, next_request};
+use crate::reading::{Asked, LINE_BYTES, Request, next_request};
 use crate::reply::Reply;
 use crate::write::write_all;
 use starlark_lexer::dialect::Dialect;
@@ -117,7 +117,7 @@ fn answer_all<R: Source, W: Sink>(
     ensures memory { IfErr result (λ f. f ≡ RunFault.Memory → ⊥) }
 {
     joined_outline();
-    let mut line = [0u8; 64];
+    let mut line = [0u8; LINE_BYTES];
     'commands: loop {
         match next_request(alloc, ahead, reader, &mut line)? {
             Request::Whole => return Ok(End::Whole),

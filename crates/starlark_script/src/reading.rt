@@ -11,6 +11,9 @@ use crate::device::Source;
 use crate::fault::RunFault;
 use std::alloc::Global;
 
+/// How many bytes the line of a command has at most, its line feed aside.
+pub(crate) const LINE_BYTES: usize = 64;
+
 /// What stands in the script up to the next line feed. The line of a command has at most 64 bytes before it.
 pub enum Line {
     /// Nothing: the script is at its end.
@@ -82,7 +85,7 @@ fn next_line<R: Source>(
     ensures paid { Pays ahead.old.reads ahead.new.reads 1 (R.remaining reader.old) (R.remaining reader.new) }
     ensures even { IfOk result (λ l. line_goes l ≡ true → Pays ahead.old.reads ahead.new.reads 0 (R.remaining reader.old) (R.remaining reader.new)) }
 {
-    for i in 0..64 {
+    for i in 0..LINE_BYTES {
         match ahead.next(reader)? {
             None => {
                 if i == 0 {
@@ -102,7 +105,7 @@ fn next_line<R: Source>(
         None => Ok(Line::Bad),
         Some(b) => {
             if b == b'\n' {
-                return Ok(Line::Of(64));
+                return Ok(Line::Of(LINE_BYTES));
             }
             Ok(Line::Bad)
         }
