@@ -14,7 +14,8 @@ use Rattle.starlark_completion.specs.Shapes.{depth, nest, within, stage}
 use Rattle.starlark_completion.specs.Ending.{no_token, another, last_of}
 use Rattle.starlark_completion.specs.Closing.{CanClose}
 use Rattle.starlark_completion.specs.Laws.{Laws}
-use Rattle.starlark_completion.proofs.Running.{Path, no_step, a_step, reached}
+use Rattle.starlark_grammar.proofs.Behind.{Path, no_step, a_step}
+use Rattle.starlark_completion.proofs.Running.{reached}
 use Rattle.starlark_completion.proofs.Nests.{InPiece, in_piece, state_text}
 use Rattle.starlark_completion.proofs.Completed.{InLine}
 use Rattle.starlark_completion.proofs.Ways.{Fits, step_goes, path_way, path_depth, path_stage}

@@ -20,7 +20,8 @@ use Rattle.starlark_completion.specs.Ending.{no_token, last_of, goes_on_line, co
 use Rattle.starlark_completion.specs.Ending as ending
 use Rattle.starlark_completion.specs.Laws.{Laws}
 use Rattle.starlark_completion.proofs.Counting.{even}
-use Rattle.starlark_completion.proofs.Running.{Accepted, accepted_step, accepted_steps, Path, reached, runs_on, path_same, goes_by}
+use Rattle.starlark_grammar.proofs.Behind.{Path}
+use Rattle.starlark_completion.proofs.Running.{Accepted, accepted_step, accepted_steps, reached, runs_on, path_same, goes_by}
 use Rattle.starlark_completion.proofs.Lined.{newlines, lined}
 use Rattle.starlark_completion.proofs.Closed.{front_of}
 use Rattle.starlark_completion.proofs.Completed.{InLine, closes}

@@ -8,13 +8,14 @@ use Rattle.starlark_grammar.specs.Nodes.{block_of}
 use Rattle.starlark_grammar.specs.Frames.{Blocks, outer, inner, Ifs, at_if, at_elif, Suites, of_if, of_else, of_for, of_def, head, State, at_line, behind_for, behind_if, wants_indent}
 use Rattle.starlark_grammar.specs.Machine.{push, settled, close, step}
 use Rattle.starlark_grammar.specs.Runs.{Accepts, finish}
+use Rattle.starlark_grammar.proofs.Alike.{bottom_end}
 use Rattle.starlark_completion.specs.Shapes.{block_depth, if_depth, suite_depth, depth, Stage, within, at_beginning, in_block, before_block, block_stage, stage}
 use Rattle.starlark_completion.proofs.MovingFrames.{settled_depth, settled_stage}
-use Rattle.starlark_completion.proofs.Running.{Accepted, at_end, accepted_now, accepted_step, accepted_steps, stuck_not}
+use Rattle.starlark_completion.proofs.Running.{Accepted, accepted_now, accepted_step, accepted_steps, stuck_not}
 
 -- what behaves at a Dedent and at the end as a line's beginning
 as_line : (s u : State) (n : ℕ) → finish s ≡ finish u → step s (item 0 dedent 0) ≡ step u (item 0 dedent 0) → Accepted u (dedents 0 n) → Accepted s (dedents 0 n)
-as_line s u zero f g a = accepted_now s a.0 (f ∙ sym (at_end u) ∙ a.1)
+as_line s u zero f g a = accepted_now s a.0 (f ∙ sym (bottom_end u) ∙ a.1)
 as_line s u (suc n) f g a = let h = accepted_steps u (item 0 dedent 0) (dedents 0 n) a in accepted_step s h.state (item 0 dedent 0) (dedents 0 n) (g ∙ h.steps) h.accepted
 
 mutual
@@ -66,7 +67,7 @@ Blank before_block = Unit {0}
 Blank g = ⊥
 
 blank_line : (s : State) → ((raw : Statement) → finish s ≡ Accepts raw → ⊥) → step s (item 0 dedent 0) ≡ None → (n : ℕ) → Accepted s (dedents 0 n) → ⊥
-blank_line s f g zero a = f a.0 (sym (at_end s) ∙ a.1)
+blank_line s f g zero a = f a.0 (sym (bottom_end s) ∙ a.1)
 blank_line s f g (suc n) a = let h = accepted_steps s (item 0 dedent 0) (dedents 0 n) a in let z : None ≡ Some h.state = sym g ∙ h.steps in absurd (cc)
 
 not_blank : (s : State) → Blank (stage s) → (n : ℕ) → Accepted s (dedents 0 n) → ⊥

@@ -1,15 +1,16 @@
 -- The machine's way over tokens, and that places do not matter to it.
 use Rattle.std.proofs.Common.{◌≡◌, ◌⊎◌, ◌∷◌, ◌++◌, ◌∙◌, [], inl, inr, List, Option, Some, None, refl, ap, sym, append-nil}
 use Rattle.std.proofs.lemmas.List.{map-append}
-use Rattle.starlark_grammar.specs.Spans.{stretch}
 use Rattle.starlark_lexer.specs.Items.{Lexeme, Item}
-use Rattle.starlark_ast.specs.Tree.{Statement, when}
+use Rattle.starlark_ast.specs.Tree.{Statement}
 use Rattle.starlark_grammar.specs.Grammar.{Derives}
-use Rattle.starlark_grammar.specs.Events.{Event}
-use Rattle.starlark_grammar.specs.Frames.{Blocks, outer, inner, State, at_line, behind_for, behind_if}
-use Rattle.starlark_grammar.specs.Machine.{settled, step}
-use Rattle.starlark_grammar.specs.Runs.{met, Trace, Accepts, Stuck, Note, bottom, note, end_line, finish, run, initial}
+use Rattle.starlark_grammar.specs.Frames.{State}
+use Rattle.starlark_grammar.specs.Machine.{step}
+use Rattle.starlark_grammar.specs.Runs.{Trace, Accepts, Stuck, Note, bottom, finish, run, initial}
 use Rattle.starlark_grammar.specs.Language.{bare, IsDead}
+use Rattle.starlark_grammar.proofs.Alike.{bottom_end}
+use Rattle.starlark_grammar.proofs.Behind.{Path, no_step, a_step}
+use Rattle.starlark_grammar.proofs.Dead.{beyond, one_step}
 use Rattle.starlark_completion.specs.Laws.{Laws}
 use Rattle.starlark_completion.specs.Ending.{Goes}
 
@@ -17,43 +18,9 @@ use Rattle.starlark_completion.specs.Ending.{Goes}
 abbrev pub Accepted : State → List Item → Type 0
 Accepted s ts = (raw : Statement) × (bottom (run s ts) ≡ Accepts raw)
 
-bottom_note : (n : List Item) (m : Option Event) (v : Trace) → bottom (note n m v) ≡ bottom v
-bottom_note n None v = refl
-bottom_note n (Some e) v = refl
-
-bottom_finish : (s : State) → bottom (finish s) ≡ finish s
-bottom_finish (at_line (outer ss) e) = refl
-bottom_finish (at_line (inner ss k) e) = refl
-bottom_finish (behind_for l (outer ss) e) = refl
-bottom_finish (behind_for l (inner ss k) e) = refl
-bottom_finish (behind_if q s p e k) = of_line (settled k (when q s (stretch p e)) e)
-  where
-    of_line : (b : Blocks) → bottom (end_line b e) ≡ end_line b e
-    of_line (outer ss) = refl
-    of_line (inner ss k) = refl
-bottom_finish _ = refl
-
--- past a step
-abbrev pub beyond : Item → List Item → Option State → Trace
-beyond x xs o = let v : Trace = elim o [ None ↦ Stuck (x ∷ xs) | Some s' ↦ run s' xs ] in v
-
-runs : (s : State) (x : Item) (xs : List Item) → run s (x ∷ xs) ≡ note (x ∷ xs) (met s (Some x.lexeme)) (beyond x xs (step s x))
-unfolding run
-runs s x xs = refl
-
-runs_end : (s : State) → run s [] ≡ note [] (met s None) (finish s)
-unfolding run
-runs_end s = refl
-
-pub one_step : (s : State) (x : Item) (xs : List Item) → bottom (run s (x ∷ xs)) ≡ bottom (beyond x xs (step s x))
-one_step s x xs = ap bottom (runs s x xs) ∙ bottom_note (x ∷ xs) (met s (Some x.lexeme)) (beyond x xs (step s x))
-
-pub at_end : (s : State) → bottom (run s []) ≡ finish s
-at_end s = ap bottom (runs_end s) ∙ bottom_note [] (met s None) (finish s) ∙ bottom_finish s
-
 -- accepted at once, and behind a token
 pub accepted_now : (s : State) (raw : Statement) → finish s ≡ Accepts raw → Accepted s []
-accepted_now s raw q = (raw, at_end s ∙ q)
+accepted_now s raw q = (raw, bottom_end s ∙ q)
 
 pub accepted_step : (s u : State) (x : Item) (xs : List Item) → step s x ≡ Some u → Accepted u xs → Accepted s (x ∷ xs)
 accepted_step s u x xs q a = (a.0, one_step s x xs ∙ ap (λ o. bottom (beyond x xs o)) q ∙ a.1)
@@ -73,11 +40,6 @@ accepted_steps s x xs a = go (step s x) refl (sym (one_step s x xs) ∙ a.1)
     go : (o : Option State) → step s x ≡ o → bottom (beyond x xs (step s x)) ≡ Accepts a.0 → Stepped s x xs
     go None q e = stuck_not (x ∷ xs) a.0 (sym (ap (λ o. bottom (beyond x xs o)) q) ∙ e)
     go (Some u) q e = record { state = u; steps = q; accepted = (a.0, sym (ap (λ o. bottom (beyond x xs o)) q) ∙ e) }
-
--- from one state to another over those tokens
-pub data Path : State → List Item → State → Type 0 where
-  no_step : {s : State} → Path s [] s
-  a_step : {s u t : State} {x : Item} {w : List Item} → step s x ≡ Some u → Path u w t → Path s (x ∷ w) t
 
 pub record Reached (s : State) (w rest : List Item) : Type 0 where
   pub state : State

@@ -13,7 +13,7 @@ use Rattle.starlark_completion.specs.Moves.{Moves, Turned, Deeper, Staged}
 use Rattle.starlark_completion.specs.Ending.{Last, no_token, a_line_end, a_dedent, an_indent, another, kind_of, last_of, goes_on_line, at_beginning_of_line, begins_block}
 use Rattle.starlark_completion.proofs.Moving.{move_moves}
 use Rattle.starlark_completion.proofs.Nests.{InPiece, in_piece, state_text, turns_outside, turns_inside}
-use Rattle.starlark_completion.proofs.Running.{Path, no_step, a_step}
+use Rattle.starlark_grammar.proofs.Behind.{Path, no_step, a_step}
 
 pub step_moves : (s u : State) (x : Item) → step s x ≡ Some u → Turned x.lexeme (nest s) (nest u) × Deeper x.lexeme (depth s) (depth u) × Staged x.lexeme (stage u)
 step_moves s u x q = subst (Moves (nest s) (depth s) x.lexeme) q (move_moves s x.lexeme x.begin x.end)

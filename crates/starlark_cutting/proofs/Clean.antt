@@ -1,7 +1,7 @@
 -- A text with a blank or a line feed in it is in no class of lexemes.
 use Rattle.std.proofs.Common.{◌≡◌, ◌<◌, ◌≤◌, ◌⊎◌, ℕ, Bool, true, false, not, ◌&&◌, ◌||◌, List, [], ◌∷◌, length, take, drop, get_or, refl, ap, sym, ◌∙◌, arith, inl, inr, eqb, ltb}
 use Rattle.std.specs.Prelude.{Option, Some, None}
-use Rattle.std.proofs.lemmas.Bool.{cases_Bool, false≢true}
+use Rattle.std.proofs.lemmas.Bool.{cases_Bool, false≢true, and_from}
 use Rattle.std.proofs.lemmas.Bool.Decides.{nat_tests}
 use Rattle.std.proofs.lemmas.List.{take-append-drop}
 use Rattle.std.proofs.lemmas.List.Folds.{list_all_at, list_all-append}
@@ -11,7 +11,7 @@ use Rattle.starlark_lexer.specs.declared.literal.Form.{Form}
 use Rattle.starlark_lexer.specs.declared.literal.Sort.{Sort}
 use Rattle.starlark_lexer.specs.declared.token.FStringQuote.{FStringQuote}
 use Rattle.starlark_lexer.specs.Literals.{opening_of, opened, prefix_of, quote_of, letters}
-use Rattle.starlark_cutting.proofs.KeptNumbers.{joint, not_true, no_row, row_not, run_passes, word_passes, digits_pass, zeros_pass, based_passes, float_passes}
+use Rattle.starlark_cutting.proofs.KeptNumbers.{few_radices, not_true, no_row, row_not, run_passes, word_passes, digits_pass, zeros_pass, based_passes, float_passes}
 use Rattle.starlark_lexer.specs.Classes.{meaning, is_word, is_word_byte, is_digits, is_zeros, is_based, is_float, operators, operator_of, is_other, is_continuation, is_nil, is_blank}
 
 -- neither a blank nor a line feed
@@ -47,7 +47,7 @@ abbrev all_clean : List ℕ → Bool
 all_clean w = list_all clean w
 
 parts_clean : (n : ℕ) (w : List ℕ) → all_clean (take n w) ≡ true → all_clean (drop n w) ≡ true → all_clean w ≡ true
-parts_clean n w h k = ap all_clean (sym (take-append-drop n w)) ∙ list_all-append clean (take n w) (drop n w) ∙ joint (all_clean (take n w)) (all_clean (drop n w)) h k
+parts_clean n w h k = ap all_clean (sym (take-append-drop n w)) ∙ list_all-append clean (take n w) (drop n w) ∙ and_from (all_clean (take n w)) (all_clean (drop n w)) h k
 
 -- ---- words and numbers
 
@@ -59,15 +59,12 @@ sign_clean b h = grind (arith, nat_tests)
 
 -- no radix has one of them for a digit
 radix_clean : (r b : ℕ) → r ≤ 16 → is_digit b r ≡ true → clean b ≡ true
-radix_clean r b le h = failing (λ c. is_digit c r) (none r le) (none r le) (none r le) (none r le) b h
-  where
-    none : (r : ℕ) → r ≤ 16 → ltb 36 r ≡ false
-    none r le = grind (arith, nat_tests)
+radix_clean r b le h = failing (λ c. is_digit c r) (few_radices r le) (few_radices r le) (few_radices r le) (few_radices r le) b h
 
 -- ---- prefixes and quotes
 
 module _ {A : Type 0} where
-  some_not : (x : A) → None ≡ Some x → ⊥
+  pub some_not : (x : A) → None ≡ Some x → ⊥
   some_not x e = cc
 
 abbrev is_some : {A : Type 0} → Option A → Bool
@@ -79,7 +76,7 @@ some_is o x e = ap is_some e
 
 prefix_clean : (w : List ℕ) (p : Sort × Bool) → prefix_of w ≡ Some p → all_clean w ≡ true
 prefix_clean [] p h = refl
-prefix_clean (a ∷ []) p h = joint (clean a) true (failing (λ c. is_some (prefix_of (c ∷ []))) refl refl refl refl a (some_is _ p h)) refl
+prefix_clean (a ∷ []) p h = and_from (clean a) true (failing (λ c. is_some (prefix_of (c ∷ []))) refl refl refl refl a (some_is _ p h)) refl
 prefix_clean (a ∷ b ∷ []) p h =
     elim (cases_Bool ((eqb a 114 && eqb b 98) || (eqb a 98 && eqb b 114))) [
       | inl e ↦ first a b e
@@ -98,7 +95,7 @@ prefix_clean (a ∷ b ∷ c ∷ w) p h = absurd (some_not p h)
 
 quote_clean : (w : List ℕ) (q : FStringQuote) → quote_of w ≡ Some q → all_clean w ≡ true
 quote_clean [] q h = refl
-quote_clean (a ∷ []) q h = joint (clean a) true (failing (λ c. is_some (quote_of (c ∷ []))) refl refl refl refl a (some_is _ q h)) refl
+quote_clean (a ∷ []) q h = and_from (clean a) true (failing (λ c. is_some (quote_of (c ∷ []))) refl refl refl refl a (some_is _ q h)) refl
 quote_clean (a ∷ b ∷ []) q h = absurd (some_not q h)
 quote_clean (a ∷ b ∷ c ∷ []) q h =
     elim (cases_Bool (eqb a 39 && eqb b 39 && eqb c 39)) [
@@ -154,7 +151,7 @@ other_clean : (w : List ℕ) → is_other w ≡ true → all_clean w ≡ true
 other_clean [] h = refl
 other_clean (b ∷ bs) h = elim (cases_Bool (ltb b 128)) [
   | inl a ↦ low_clean b bs (rw a at h)
-  | inr a ↦ joint (clean b) (all_clean bs) (high_clean b a) (run_passes clean is_continuation goes_clean bs (rw a at h))
+  | inr a ↦ and_from (clean b) (all_clean bs) (high_clean b a) (run_passes clean is_continuation goes_clean bs (rw a at h))
 ]
 
 -- ---- all classes

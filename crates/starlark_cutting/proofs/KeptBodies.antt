@@ -11,6 +11,10 @@ use Rattle.starlark_lexer.specs.declared.literal.Piece.TheVariants.{Closing, Fie
 use Rattle.starlark_lexer.specs.declared.literal.Sort.{Sort}
 use Rattle.starlark_lexer.specs.Literals.{is_format, is_bytes, continues, character, is_scalar, no_escape, escaped, simple, hex_digits, digits, begins, hex_escape, octal_escape, other_escape, by_simple, escape, raw_escape, brace}
 
+-- the first bytes of what is kept of a text, with other bytes behind it
+pub take_kept : (rest u v o : List ℕ) (k : ℕ) → rest ≡ u ++ v → k ≤ length u → take k (u ++ o) ≡ take k rest
+take_kept rest u v o k is le = take-append-le k u o le ∙ sym (take-append-le k u v le) ∙ ap (take k) (sym is)
+
 -- ---- how long a piece is
 
 -- it has at most so many bytes, and is an item or a field
@@ -116,7 +120,7 @@ octal_same s xs v o w =
     let d = digits 8 3 (xs ++ v) in
     let le : 1 + d ≤ length xs = escaped_len s (digits_value 8 (take d (xs ++ v))) (1 + d) (length xs) (xs ++ v) w in
     let same : digits 8 3 (xs ++ o) ≡ d = taken_same (λ c. is_digit c 8) 3 xs v o (omega (arith, le)) in
-    let cut : take d (xs ++ o) ≡ take d (xs ++ v) = take-append-le d xs o (omega (arith, le)) ∙ sym (take-append-le d xs v (omega (arith, le))) in
+    let cut : take d (xs ++ o) ≡ take d (xs ++ v) = take_kept (xs ++ v) xs v o d refl (omega (arith, le)) in
     ap (λ k. escaped s (digits_value 8 (take k (xs ++ o))) (1 + k) (xs ++ o)) same
     ∙ ap (λ c. escaped s (digits_value 8 c) (1 + d) (xs ++ o)) cut
     ∙ escaped_same s (digits_value 8 (take d (xs ++ v))) (1 + d) (length xs) (xs ++ v) (xs ++ o) w
@@ -127,7 +131,7 @@ hex_same s n c cs v o w = elim (cases_Bool (eqb (digits 16 n (cs ++ v)) n)) [
   | inl t ↦
       let here : Within (length (c ∷ cs)) (escaped s (digits_value 16 (take n (cs ++ v))) (2 + n) (c ∷ cs ++ v)) = rw t at w in
       let le = escaped_len s (digits_value 16 (take n (cs ++ v))) (2 + n) (length (c ∷ cs)) (c ∷ cs ++ v) here in
-      let cut : take n (cs ++ o) ≡ take n (cs ++ v) = take-append-le n cs o (omega (arith, le)) ∙ sym (take-append-le n cs v (omega (arith, le))) in
+      let cut : take n (cs ++ o) ≡ take n (cs ++ v) = take_kept (cs ++ v) cs v o n refl (omega (arith, le)) in
       let t2 : eqb (digits 16 n (cs ++ o)) n ≡ true = ap (λ k. eqb (prefix_len (λ d. is_digit d 16) k) n) cut ∙ t in
       ap (λ b. cond b (escaped s (digits_value 16 (take n (cs ++ o))) (2 + n) (c ∷ cs ++ o)) (no_escape (c ∷ cs ++ o))) t2
       ∙ ap (λ k. escaped s (digits_value 16 k) (2 + n) (c ∷ cs ++ o)) cut

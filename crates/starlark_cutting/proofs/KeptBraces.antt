@@ -3,9 +3,10 @@ use Rattle.std.proofs.Common.{◌≡◌, ◌<◌, ◌≤◌, ◌⊎◌, ℕ, ◌
 use Rattle.std.specs.Prelude.{Option, Some, None}
 use Rattle.std.specs.List.{list_all, prefix_len}
 use Rattle.std.specs.Char.{is_digit}
-use Rattle.std.proofs.lemmas.Bool.{cases_Bool, false≢true}
+use Rattle.std.proofs.Math.Seq.{drop-append_seam}
+use Rattle.std.proofs.lemmas.Bool.{cases_Bool, false≢true, and_right, eqb-true}
 use Rattle.std.proofs.lemmas.Bool.Decides.{nat_tests}
-use Rattle.std.proofs.lemmas.List.{get_or-take, get_or-append-add, length-take-le, take-append-le}
+use Rattle.std.proofs.lemmas.List.{get_or-take, get_or-append-add, length-take-le}
 use Rattle.std.proofs.lemmas.List.Folds.{list_all_at}
 use Rattle.std.proofs.lemmas.Slice.Eq.{bytes_eq-Decides}
 use Rattle.std.specs.Str.{bytes_eq}
@@ -20,14 +21,14 @@ use Rattle.starlark_lexer.specs.Literals as literals
 use Rattle.starlark_lexer.specs.Literals.{body, is_format, opening_of, continues, no_escape, escaped, simple, hex_digits, digits, begins, hex_escape, octal_escape, other_escape, by_simple, escape, raw_escape, brace, piece, goes_on, later, read}
 use Rattle.starlark_lexer.specs.Classes.{meaning, is_word_byte, operators, operator_of, is_continuation}
 use Rattle.std.specs.Str.Parse.{digits_value}
-use Rattle.starlark_cutting.proofs.KeptBodies.{Within, Alike, choose, escaped_same, escaped_len}
+use Rattle.starlark_cutting.proofs.KeptBodies.{take_kept, Within, Alike, choose, escaped_same, escaped_len}
 use Rattle.starlark_lexer.proofs.JoinedBodies.{Final}
 use Rattle.starlark_cutting.proofs.KeptReads as reads
-use Rattle.starlark_cutting.proofs.KeptReads.{extent, body_once, mark_piece, inner, inner_piece, equal_from, and_false}
+use Rattle.starlark_cutting.proofs.KeptReads.{extent, body_once, mark_piece, inner, inner_piece}
 use Rattle.starlark_cutting.proofs.KeptLines.{Stops}
-use Rattle.starlark_cutting.proofs.KeptNumbers.{no_row, row_not, none_passes}
+use Rattle.starlark_cutting.proofs.KeptNumbers.{few_radices, no_row, row_not, none_passes}
 use Rattle.starlark_cutting.proofs.KeptMarks.{Barrier, is_opened, opens_with}
-use Rattle.starlark_cutting.proofs.KeptTails.{Item_within, item_fits, tail, tail_field, no_marks, drop_front, closed_front, field_front, field_brace, stops_brace}
+use Rattle.starlark_cutting.proofs.KeptTails.{Item_within, item_fits, tail, tail_field, no_marks, closed_front, field_front, field_brace, stops_brace}
 
 -- ---- no lexeme of two bytes or more has a brace in it
 
@@ -46,11 +47,8 @@ radix_none : (r b : ℕ) → r ≤ 16 → is_digit b r ≡ true → no_brace b �
 unfolding no_brace
 radix_none r b le h = elim (cases_Bool (eqb b 123)) [
   | inr c ↦ ap not c
-  | inl c ↦ let e : b ≡ 123 = grind (arith, nat_tests) in absurd (false≢true (sym (none r le) ∙ ap (λ x. is_digit x r) (sym e) ∙ h))
+  | inl c ↦ let e : b ≡ 123 = grind (arith, nat_tests) in absurd (false≢true (sym (few_radices r le) ∙ ap (λ x. is_digit x r) (sym e) ∙ h))
 ]
-  where
-    none : (r : ℕ) → r ≤ 16 → ltb 36 r ≡ false
-    none r le = grind (arith, nat_tests)
 
 high_none : (b : ℕ) → ltb b 128 ≡ false → no_brace b ≡ true
 unfolding no_brace
@@ -124,10 +122,7 @@ module _ (p : ℕ → Bool) (a c : ℕ) (w o : List ℕ) (no_a : p a ≡ false) 
   taken_most (suc m) (x ∷ xs) = elim (cases_Bool (p x)) [ inl t ↦ rw t (omega (arith, taken_most m xs)) | inr t ↦ rw t (omega arith) ]
 
 mark_digit : (r a : ℕ) → r ≤ 16 → Marked a → is_digit a r ≡ false
-mark_digit r a le m = at_mark (λ x. is_digit x r ≡ false) a (none r le) (none r le) m
-  where
-    none : (r : ℕ) → r ≤ 16 → ltb 36 r ≡ false
-    none r le = grind (arith, nat_tests)
+mark_digit r a le m = at_mark (λ x. is_digit x r ≡ false) a (few_radices r le) (few_radices r le) m
 
 module _ (s : Sort) (a : ℕ) (w o : List ℕ) (mark : Marked a) where
   octal_other : (xs : List ℕ) → Alike (suc (length xs)) (octal_escape s (xs ++ a ∷ w)) (octal_escape s (xs ++ 123 ∷ o))
@@ -136,7 +131,7 @@ module _ (s : Sort) (a : ℕ) (w o : List ℕ) (mark : Marked a) where
       let d = digits 8 3 (xs ++ a ∷ w) in
       let le : d ≤ length xs = taken_most (λ c. is_digit c 8) a 123 w o no refl 3 xs in
       let same : digits 8 3 (xs ++ 123 ∷ o) ≡ d = taken_other (λ c. is_digit c 8) a 123 w o no refl 3 xs in
-      let cut : take d (xs ++ 123 ∷ o) ≡ take d (xs ++ a ∷ w) = take-append-le d xs (123 ∷ o) le ∙ sym (take-append-le d xs (a ∷ w) le) in
+      let cut : take d (xs ++ 123 ∷ o) ≡ take d (xs ++ a ∷ w) = take_kept (xs ++ a ∷ w) xs (a ∷ w) (123 ∷ o) d refl le in
       ap (λ k. escaped s (digits_value 8 (take k (xs ++ 123 ∷ o))) (1 + k) (xs ++ 123 ∷ o)) same
       ∙ ap (λ c. escaped s (digits_value 8 c) (1 + d) (xs ++ 123 ∷ o)) cut
       ∙ escaped_same s (digits_value 8 (take d (xs ++ a ∷ w))) (1 + d) (suc (length xs)) (xs ++ a ∷ w) (xs ++ 123 ∷ o) h
@@ -147,9 +142,9 @@ module _ (s : Sort) (a : ℕ) (w o : List ℕ) (mark : Marked a) where
     | inl t ↦
         let no = mark_digit 16 a (omega arith) mark in
         let here : Within (suc (length (c ∷ cs))) (escaped s (digits_value 16 (take n (cs ++ a ∷ w))) (2 + n) (c ∷ cs ++ a ∷ w)) = rw t at h in
-        let all : digits 16 n (cs ++ a ∷ w) ≡ n = equal_from (digits 16 n (cs ++ a ∷ w)) n t in
+        let all : digits 16 n (cs ++ a ∷ w) ≡ n = eqb-true (digits 16 n (cs ++ a ∷ w)) n t in
         let le : n ≤ length cs = omega (arith, all, taken_most (λ d. is_digit d 16) a 123 w o no refl n cs) in
-        let cut : take n (cs ++ 123 ∷ o) ≡ take n (cs ++ a ∷ w) = take-append-le n cs (123 ∷ o) le ∙ sym (take-append-le n cs (a ∷ w) le) in
+        let cut : take n (cs ++ 123 ∷ o) ≡ take n (cs ++ a ∷ w) = take_kept (cs ++ a ∷ w) cs (a ∷ w) (123 ∷ o) n refl le in
         let t2 : eqb (digits 16 n (cs ++ 123 ∷ o)) n ≡ true = ap (λ k. eqb (prefix_len (λ d. is_digit d 16) k) n) cut ∙ t in
         ap (λ b. cond b (escaped s (digits_value 16 (take n (cs ++ 123 ∷ o))) (2 + n) (c ∷ cs ++ 123 ∷ o)) (no_escape (c ∷ cs ++ 123 ∷ o))) t2
         ∙ ap (λ k. escaped s (digits_value 16 k) (2 + n) (c ∷ cs ++ 123 ∷ o)) cut
@@ -159,7 +154,7 @@ module _ (s : Sort) (a : ℕ) (w o : List ℕ) (mark : Marked a) where
 
   cr_other : (c : ℕ) (cs : List ℕ) → Alike (suc (length (c ∷ cs))) (cond (eqb c 13 && begins 10 (cs ++ a ∷ w)) (Nothing 3) (no_escape (c ∷ cs ++ a ∷ w))) (cond (eqb c 13 && begins 10 (cs ++ 123 ∷ o)) (Nothing 3) (no_escape (c ∷ cs ++ 123 ∷ o)))
   cr_other c [] h =
-      let n : (eqb c 13 && eqb a 10) ≡ false = ap (λ t. eqb c 13 && t) (at_mark (λ x. eqb x 10 ≡ false) a refl refl mark) ∙ and_false (eqb c 13) in
+      let n : (eqb c 13 && eqb a 10) ≡ false = and_right (eqb c 13) (eqb a 10) (at_mark (λ x. eqb x 10 ≡ false) a refl refl mark) in
       absurd (subst (λ t. Within 2 (cond t (Nothing 3) (no_escape (c ∷ a ∷ w)))) n h)
   cr_other c (d ∷ ds) h = choose (suc (length (c ∷ d ∷ ds))) (eqb c 13 && eqb d 10) (Nothing 3) (no_escape (c ∷ d ∷ ds ++ a ∷ w)) (Nothing 3) (no_escape (c ∷ d ∷ ds ++ 123 ∷ o)) (λ _ _. refl) (λ _ k. absurd k) h
 
@@ -186,7 +181,7 @@ module _ (s : Sort) (a : ℕ) (w o : List ℕ) (mark : Marked a) where
   raw_mark : Within 1 (raw_escape s (a ∷ w)) → ⊥
   unfolding raw_escape
   raw_mark h =
-      let n : (eqb a 13 || (is_format s && (eqb a 123 || eqb a 125))) ≡ false = at_mark (λ x. (eqb x 13 || (is_format s && (eqb x 123 || eqb x 125))) ≡ false) a (and_false (is_format s)) (and_false (is_format s)) mark in
+      let n : (eqb a 13 || (is_format s && (eqb a 123 || eqb a 125))) ≡ false = at_mark (λ x. (eqb x 13 || (is_format s && (eqb x 123 || eqb x 125))) ≡ false) a (and_right (is_format s) false refl) (and_right (is_format s) false refl) mark in
       let c : ltb a 128 ≡ true = at_mark (λ x. ltb x 128 ≡ true) a refl refl mark in
       let two : 1 + 1 ≤ 1 = rw (n, c) at h in
       omega (arith, two)
@@ -203,7 +198,7 @@ module _ (f : Form) (a : ℕ) (w o : List ℕ) (mark : Marked a) where
   brace_other : (b : ℕ) (xs : List ℕ) → Item_within (suc (length xs)) (brace b (xs ++ a ∷ w)) → brace b (xs ++ 123 ∷ o) ≡ brace b (xs ++ a ∷ w)
   brace_other b [] h = elim (cases_Bool (eqb b 123)) [
     | inl t ↦
-        let is : b ≡ 123 = equal_from b 123 t in
+        let is : b ≡ 123 = eqb-true b 123 t in
         let n : eqb a b ≡ false = ap (eqb a) is ∙ at_mark (λ x. eqb x 123 ≡ false) a refl refl mark in
         absurd (rw (n, t) at h)
     | inr t ↦ elim (cases_Bool (eqb a b)) [
@@ -227,15 +222,15 @@ module _ (f : Form) (a : ℕ) (w o : List ℕ) (mark : Marked a) where
   marks_other Double bs h = h
   marks_other TripleSingle [] h = refl
   marks_other TripleDouble [] h = refl
-  marks_other TripleSingle (x ∷ []) h = and_false (eqb x 39)
-  marks_other TripleDouble (x ∷ []) h = and_false (eqb x 34)
+  marks_other TripleSingle (x ∷ []) h = and_right (eqb x 39) false refl
+  marks_other TripleDouble (x ∷ []) h = and_right (eqb x 34) false refl
   marks_other TripleSingle (x ∷ y ∷ bs) h = h
   marks_other TripleDouble (x ∷ y ∷ bs) h = h
 
   other_front : (b : ℕ) (bs : List ℕ) → Item_within (suc (length bs)) (piece f (b ∷ bs ++ a ∷ w)) → piece f (b ∷ bs ++ 123 ∷ o) ≡ piece f (b ∷ bs ++ a ∷ w)
   other_front b bs h = elim (cases_Bool (eqb b (literals.mark f.quote))) [
     | inl t ↦
-        let at : (y : List ℕ) → piece f (b ∷ y) ≡ cond (goes_on f.quote y) Closing (Same 1) = λ y. ap (λ c. piece f (c ∷ y)) (equal_from b (literals.mark f.quote) t) ∙ mark_piece f y in
+        let at : (y : List ℕ) → piece f (b ∷ y) ≡ cond (goes_on f.quote y) Closing (Same 1) = λ y. ap (λ c. piece f (c ∷ y)) (eqb-true b (literals.mark f.quote) t) ∙ mark_piece f y in
         let fits = item_fits (suc (length bs)) (piece f (b ∷ bs ++ a ∷ w)) h in
         let n = no_marks (suc (length bs)) (goes_on f.quote (bs ++ a ∷ w)) (subst (Within (suc (length bs))) (at (bs ++ a ∷ w)) fits) in
         (at (bs ++ 123 ∷ o) ∙ ap (λ x. cond x Closing (Same 1)) (marks_other f.quote bs n)) ∙ sym (at (bs ++ a ∷ w) ∙ ap (λ x. cond x Closing (Same 1)) n)
@@ -265,5 +260,5 @@ field_field g u (a ∷ v) o fmt stop h once =
     tail_field g u 123 v o (ap (λ b. body g 0 (u ++ b ∷ v)) (sym e) ∙ h) (field_brace g o fmt (stops_brace o stop))
 
 pub text_field : (g : Form) (u v o : List ℕ) → is_format g.sort ≡ true → Stops o → (body g 0 (u ++ v) ≡ ending.Closed (length u)) ⊎ (body g 0 (u ++ v) ≡ ending.Field (length u)) → body g 0 (u ++ 123 ∷ o) ≡ ending.Field (length u)
-text_field g u v o fmt stop (inl h) = closed_field g u v o fmt stop h (ap (body g 0) (sym (drop_front u v)) ∙ body_once g (u ++ v) (ending.Closed (length u)) tt h)
-text_field g u v o fmt stop (inr h) = field_field g u v o fmt stop h (ap (body g 0) (sym (drop_front u v)) ∙ body_once g (u ++ v) (ending.Field (length u)) tt h)
+text_field g u v o fmt stop (inl h) = closed_field g u v o fmt stop h (ap (body g 0) (sym (drop-append_seam u v)) ∙ body_once g (u ++ v) (ending.Closed (length u)) tt h)
+text_field g u v o fmt stop (inr h) = field_field g u v o fmt stop h (ap (body g 0) (sym (drop-append_seam u v)) ∙ body_once g (u ++ v) (ending.Field (length u)) tt h)

@@ -2,9 +2,9 @@
 use Rattle.std.proofs.Common.{◌≡◌, ◌<◌, ℕ, ◌+◌, true, false, List, [], ◌∷◌, ◌++◌, length, take, drop, refl, ap, sym, ◌∙◌, arith, suc, inl, inr, subst, append_assoc, length-append, length-drop, IsAscii}
 use Rattle.std.proofs.Math.Seq.{drop-append_seam}
 use Rattle.std.proofs.lemmas.Bool.{cases_lt, false≢true}
-use Rattle.std.proofs.lemmas.List.{append-nil, drop-append-le}
+use Rattle.std.proofs.lemmas.List.{append-nil, drop-append-le, nil_from_length}
 use Rattle.std.proofs.lemmas.Str.Ascii.{IsAscii-nil, IsAscii-push}
-use Rattle.starlark_lexer.specs.Items.{newline, comment, is_opening, is_closing, Item, item, Lexed, with_items, opening_item, closing_item}
+use Rattle.starlark_lexer.specs.Items.{newline, comment, is_opening, is_closing, Item, item, with_items, opening_item, closing_item}
 use Rattle.starlark_lexer.specs.Classes.{leading, line_len, line_end}
 use Rattle.starlark_lexer.specs.Widths.{Closes}
 use Rattle.starlark_lexer.specs.Lex.{Past, Step, Lex, on, recorded, mode_behind, is_inside, IsBalanced, goes_on, start}
@@ -17,7 +17,7 @@ use Rattle.starlark_lexer.proofs.JoinedLines.{leading_more}
 use Rattle.starlark_cutting.proofs.KeptMoves.{At, not_inside}
 use Rattle.starlark_cutting.proofs.KeptSteps.{goes}
 use Rattle.starlark_cutting.proofs.KeptTracks.{Tracks, tracks}
-use Rattle.starlark_cutting.proofs.KeptCut.{both_tracks, outside_counted}
+use Rattle.starlark_cutting.proofs.KeptCut.{joint_items, both_tracks, outside_counted}
 use Rattle.starlark_cutting.proofs.KeptPuts.{counted}
 use Rattle.starlark_cutting.proofs.KeptRemarks.{whole_len}
 use Rattle.starlark_cutting.proofs.KeptReach.{Reach, one_more, find, far_reach}
@@ -33,9 +33,6 @@ use Rattle.starlark_cutting.proofs.KeptLast.{AtEnd, begins, within, closing, Beg
 -- the widths that are open
 shut : (xs : List Item) (q : Past) → Tracks start xs q → (closed : List ℕ) × Closes q.lines 0 closed
 shut xs q t = let w = t.widths [] no_lines in (w.still, record { once = w.stack.once; each = λ x. w.stack.each x })
-
-joint_items : (xs ys : List Item) (m : Lexed) → with_items xs (with_items ys m) ≡ with_items (xs ++ ys) m
-joint_items xs ys m = λ i. record { items = sym (append_assoc xs ys m.items) i; fault = m.fault }
 
 no_cr : (c : List ℕ) → 35 ∷ c ≡ 13 ∷ [] → ⊥
 no_cr c e = let s : ◌≡◌ {A = ℕ} 35 13 = cc in omega (arith, s)
@@ -172,10 +169,6 @@ module _ (u : List ℕ) (z : Item) (is_end : z.lexeme ≡ newline) where
 
 -- ---- the text's end
 
-no_bytes : (w : List ℕ) → length w ≡ 0 → w ≡ []
-no_bytes [] e = refl
-no_bytes (b ∷ w) e = absurd (omega (arith, e))
-
 module _ (u : List ℕ) (xs : List Item) (z : Item) (is_end : z.lexeme ≡ newline) (closed : open_behind 0 (xs ++ z ∷ []) ≡ 0) (even : EvenWith (xs ++ z ∷ []) []) where
   closed_before : open_behind 0 xs ≡ 0
   closed_before = ap (nested (open_behind 0 xs)) (sym is_end) ∙ sym (open_append 0 xs (z ∷ [])) ∙ closed
@@ -200,7 +193,7 @@ behind_end u v before z behind c n none closed even =
       | inr (l, (step, e)) ↦
           let k = closing step f.first z behind e.0 n in
           let g = given step f.first z behind e.0 in
-          let nil : v ≡ [] = no_bytes v (omega (arith, g.0, far.1.0, c.length_is, length-append u v)) in
+          let nil : v ≡ [] = nil_from_length v (omega (arith, g.0, far.1.0, c.length_is, length-append u v)) in
           let all : u ++ v ≡ u = ap (λ y. u ++ y) nil ∙ append-nil u in
           let front : f.front ≡ before = sym (f.is ∙ ap (λ y. f.front ++ y) k.0 ∙ append-nil f.front) in
           by_end u before z n closed even f.past f.left (subst (λ y. Reach start y before f.past f.left) all (subst (λ y. Reach start (u ++ v) y f.past f.left) front f.reach)) k.1

@@ -1,7 +1,7 @@
 -- A line feed that is put behind a text, and what the text is cut into then.
 use Rattle.std.proofs.Common.{◌≡◌, ℕ, ◌+◌, true, cond, List, [], ◌∷◌, ◌++◌, length, drop, refl, ap, sym, ◌∙◌, arith, inl, inr, subst, length-append, IsAscii}
 use Rattle.std.proofs.Math.Seq.{drop-append_seam}
-use Rattle.std.proofs.lemmas.Bool.{cases_Bool}
+use Rattle.std.proofs.lemmas.Bool.{cases_Bool, and_parts}
 use Rattle.std.proofs.lemmas.List.{append-nil}
 use Rattle.starlark_lexer.specs.Items.{Item, item, newline, dedents, Lexed, nothing, with_items}
 use Rattle.starlark_lexer.specs.Joining.{is_comment}
@@ -11,7 +11,7 @@ use Rattle.starlark_lexer.specs.Lex.{Past, Step, Lex, on, is_inside, moved, reco
 use Rattle.starlark_lexer.specs.Lex as rules
 use Rattle.starlark_cutting.specs.Cutting.{tokens_of, IsContinued}
 use Rattle.starlark_cutting.proofs.KeptPuts.{Among, end_line}
-use Rattle.starlark_cutting.proofs.KeptFeeds.{all_blank, and_yes, lead_feed}
+use Rattle.starlark_cutting.proofs.KeptFeeds.{all_blank, lead_before}
 
 -- ---- tokens
 
@@ -42,7 +42,7 @@ feed_within [] p closed n at a even shut blank =
     let f : p.place + 1 + 0 ≡ n + 1 = omega (arith, at) in
     subst (Lex p (10 ∷ [])) (λ i. with_items (item (e i) newline (e i + 1) ∷ []) (with_items (item (f i) newline (f i) ∷ dedents (f i) (length closed)) nothing)) (end_line p closed a even shut)
 feed_within (b ∷ bs) p closed n at a even shut blank =
-    let k = and_yes (is_blank b) (all_blank bs) blank in
+    let k = and_parts (is_blank b) (all_blank bs) blank in
     goes_on p (b ∷ bs ++ 10 ∷ []) [] (moved p 1) (bs ++ 10 ∷ []) (fed_lexed n (length closed)) (rules.passes p b (bs ++ 10 ∷ []) a.fresh (ap is_inside a.mode) k.0)
     (feed_within bs (moved p 1) closed n (omega (arith, at)) (record { fresh = refl; mode = a.mode }) even shut k.1)
 
@@ -50,7 +50,7 @@ feed_within (b ∷ bs) p closed n at a even shut blank =
 pub feed_line : (bs : List ℕ) (p : Past) (closed : List ℕ) (n : ℕ) → n ≡ p.place + length bs → p.fresh ≡ true → Closes p.lines 0 closed → all_blank bs ≡ true → Lex p (bs ++ 10 ∷ []) (fed_lexed n (length closed))
 feed_line bs p closed n at fresh shut blank =
     let rest = bs ++ 10 ∷ [] in
-    let lead : leading rest ≡ length bs = lead_feed bs [] blank in
+    let lead : leading rest ≡ length bs = lead_before bs 10 [] refl blank in
     let stands : drop (leading rest) rest ≡ 10 ∷ [] = ap (λ k. drop k rest) lead ∙ drop-append_seam bs (10 ∷ []) in
     let len : leading rest + 1 ≡ length rest = omega (arith, lead, length-append bs (10 ∷ [])) in
     let none : drop (leading rest + 1) rest ≡ [] = ap (λ k. drop k rest) len ∙ ap (drop (length rest)) (sym (append-nil rest)) ∙ drop-append_seam rest [] in

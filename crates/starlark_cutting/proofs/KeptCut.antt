@@ -1,8 +1,8 @@
 -- Steps one behind the other; a text that is cut step by step up to one of its lexemes.
-use Rattle.std.proofs.Common.{◌≡◌, ◌≤◌, ℕ, ◌+◌, Bool, true, cond, List, ◌++◌, length, ap, ◌∙◌, arith}
+use Rattle.std.proofs.Common.{◌≡◌, ◌≤◌, ℕ, ◌+◌, Bool, true, cond, List, ◌++◌, length, ap, sym, ◌∙◌, arith, append_assoc}
 use Rattle.std.specs.Prelude.{count_by}
 use Rattle.std.proofs.lemmas.List.Sums.{sum_by-append}
-use Rattle.starlark_lexer.specs.Items.{Item, opening_item, closing_item}
+use Rattle.starlark_lexer.specs.Items.{Item, Lexed, with_items, opening_item, closing_item}
 use Rattle.starlark_lexer.specs.Lex.{Past, Step, on}
 use Rattle.starlark_cutting.specs.Cutting.{indent_item}
 use Rattle.starlark_lexer.specs.Joining.{outside, open_behind, dedent_item}
@@ -11,6 +11,9 @@ use Rattle.starlark_cutting.proofs.KeptTracks.{Tracks}
 use Rattle.starlark_cutting.proofs.KeptFinal.{one_inner}
 
 -- ---- steps one behind the other
+
+pub joint_items : (xs ys : List Item) (m : Lexed) → with_items xs (with_items ys m) ≡ with_items (xs ++ ys) m
+joint_items xs ys m = λ i. record { items = sym (append_assoc xs ys m.items) i; fault = m.fault }
 
 pub outside_counted : (f : Item → Bool) (d e : ℕ) (xs ys : List Item) → open_behind d xs ≡ e → count_by f (outside d (xs ++ ys)) ≡ count_by f (outside d xs) + count_by f (outside e ys)
 outside_counted f d e xs ys h = ap (count_by f) (outside_append d xs ys ∙ ap (λ k. outside d xs ++ outside k ys) h) ∙ sum_by-append (λ y. cond (f y) 1 0) (outside d xs) (outside e ys)

@@ -1,8 +1,7 @@
 -- A deeper line that is put behind a text where a line begins.
-use Rattle.std.proofs.Common.{◌≡◌, ℕ, ◌+◌, Bool, true, false, cond, ◌&&◌, List, [], ◌∷◌, ◌++◌, length, take, drop, refl, ap, sym, ◌∙◌, arith, suc, subst}
+use Rattle.std.proofs.Common.{◌≡◌, ℕ, ◌+◌, true, false, cond, List, [], ◌∷◌, ◌++◌, length, take, drop, refl, ap, sym, ◌∙◌, arith, subst}
 use Rattle.std.specs.List.{list_all}
-use Rattle.std.proofs.lemmas.Bool.{false≢true}
-use Rattle.std.proofs.lemmas.List.{drop-append-le, drop_all}
+use Rattle.std.proofs.Math.Seq.{take-append_seam, drop-append_seam}
 use Rattle.starlark_lexer.specs.Items.{Item, item, Lexed, nothing, newline, indent, keyword_pass, dedents, with_items, opening_item, closing_item}
 use Rattle.starlark_lexer.specs.Widths.{IsDeeper, Closes}
 use Rattle.starlark_lexer.specs.Classes.{token, IsLexeme, is_blank, leading, blanks, has_tab, spaces, width}
@@ -19,29 +18,7 @@ use Rattle.starlark_cutting.proofs.KeptCut.{both_tracks}
 use Rattle.starlark_cutting.proofs.KeptPuts.{Among, alone_lexeme, among_plain, end_line, counted}
 use Rattle.starlark_cutting.proofs.KeptSpelled.{a_pass}
 use Rattle.starlark_cutting.proofs.KeptFresh.{Begun}
-
-and_yes : (a b : Bool) → (a && b) ≡ true → (a ≡ true) × (b ≡ true)
-and_yes true b h = (refl, h)
-and_yes false b h = absurd (false≢true h)
-
--- ---- blanks at the front
-
-pub lead : (bs r : List ℕ) → list_all is_blank bs ≡ true → leading (bs ++ 112 ∷ r) ≡ length bs
-lead [] r h = refl
-lead (b ∷ bs) r h =
-    let k = and_yes (is_blank b) (list_all is_blank bs) h in
-    let e : length (b ∷ bs) ≡ 1 + length bs = omega arith in
-    step (is_blank b) (leading (bs ++ 112 ∷ r)) k.0 ∙ ap (λ n. 1 + n) (lead bs r k.1) ∙ sym e
-  where
-    step : (t : Bool) (n : ℕ) → t ≡ true → cond t (1 + n) 0 ≡ 1 + n
-    step t n e = rw e refl
-
-take_front : (w o : List ℕ) → take (length w) (w ++ o) ≡ w
-take_front [] o = refl
-take_front (b ∷ w) o = let e : length (b ∷ w) ≡ suc (length w) = omega arith in ap (λ k. take k (b ∷ w ++ o)) e ∙ ap (λ t. b ∷ t) (take_front w o)
-
-pub drop_front : (w o : List ℕ) → drop (length w) (w ++ o) ≡ o
-drop_front w o = drop-append-le (length w) w o (omega arith) ∙ ap (λ v. v ++ o) (drop_all (length w) w (omega arith))
+use Rattle.starlark_cutting.proofs.KeptFeeds.{lead_before}
 
 -- ---- a lexeme right at the place
 
@@ -77,13 +54,13 @@ measured q f bs r blank = record {
   fresh = f;
   first = 112;
   more = r;
-  stands = ap (λ k. drop k (bs ++ 112 ∷ r)) (lead bs r blank) ∙ drop_front bs (112 ∷ r);
+  stands = ap (λ k. drop k (bs ++ 112 ∷ r)) (lead_before bs 112 r refl blank) ∙ drop-append_seam bs (112 ∷ r);
   not_line = λ e. omega (arith, e);
   not_remark = λ e. omega (arith, e);
 }
 
 pub same_blanks : (bs r : List ℕ) → list_all is_blank bs ≡ true → blanks (bs ++ 112 ∷ r) ≡ bs
-same_blanks bs r blank = ap (λ k. take k (bs ++ 112 ∷ r)) (lead bs r blank) ∙ take_front bs (112 ∷ r)
+same_blanks bs r blank = ap (λ k. take k (bs ++ 112 ∷ r)) (lead_before bs 112 r refl blank) ∙ take-append_seam bs (112 ∷ r)
 
 module _ (u : List ℕ) (xs : List Item) (q : Past) (b : Begun u xs q) (bs : List ℕ) (blank : list_all is_blank bs ≡ true) (tab : has_tab bs ≡ false) (deep : IsDeeper q.lines (spaces bs)) where
   abbrev n : ℕ
@@ -101,8 +78,8 @@ module _ (u : List ℕ) (xs : List Item) (q : Past) (b : Begun u xs q) (bs : Lis
       let w : width rest ≡ spaces bs = ap spaces (same_blanks bs r blank) in
       let s = rules.deepens q rest (measured q b.begins.fresh bs r blank) (ap has_tab (same_blanks bs r blank) ∙ tab) (subst (IsDeeper q.lines) (sym w) deep) in
       let t : Step q rest (deepened q (spaces bs) (leading rest) rest) = subst (λ k. Step q rest (deepened q k (leading rest) rest)) w s in
-      let v : Step q rest (deepened q (spaces bs) n rest) = subst (λ k. Step q rest (deepened q (spaces bs) k rest)) (lead bs r blank) t in
-      subst (λ k. Step q rest (on (deep_item ∷ []) deep_past k)) (drop_front bs (112 ∷ r)) v
+      let v : Step q rest (deepened q (spaces bs) n rest) = subst (λ k. Step q rest (deepened q (spaces bs) k rest)) (lead_before bs 112 r refl blank) t in
+      subst (λ k. Step q rest (on (deep_item ∷ []) deep_past k)) (drop-append_seam bs (112 ∷ r)) v
 
   deep_among : Among deep_past
   deep_among = record { fresh = refl; mode = b.begins.mode }

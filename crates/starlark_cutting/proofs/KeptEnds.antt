@@ -1,15 +1,17 @@
 -- The step that leads to a line's beginning: where what is kept of a text ends with it, it is one whatever stands behind.
-use Rattle.std.proofs.Common.{◌≡◌, ◌<◌, ◌≤◌, ◌⊎◌, ℕ, ◌+◌, Bool, true, false, List, [], ◌∷◌, ◌++◌, length, take, drop, refl, ap, sym, ◌∙◌, arith, suc, inl, inr, subst, length-append, length-drop}
+use Rattle.std.proofs.Common.{◌≡◌, ◌<◌, ◌≤◌, ◌⊎◌, ℕ, ◌+◌, Bool, true, false, List, [], ◌∷◌, ◌++◌, length, take, drop, refl, ap, sym, ◌∙◌, arith, inl, inr, subst, length-append, length-drop}
 use Rattle.std.proofs.lemmas.Bool.{false≢true}
-use Rattle.std.proofs.lemmas.List.{take-append-drop, drop-append-le, drop_all}
+use Rattle.std.proofs.Math.Seq.{take-append_seam}
+use Rattle.std.proofs.lemmas.List.{take-append-drop, nil_from_length}
 use Rattle.starlark_lexer.specs.Items.{Item, item, newline, comment, opening_item, closing_item}
 use Rattle.starlark_lexer.specs.Classes.{leading, line_len, line_end}
 use Rattle.starlark_lexer.specs.Lex.{Past, Move, Step, on, over, IsBalanced}
 use Rattle.starlark_lexer.specs.Lex as rules
 use Rattle.starlark_lexer.proofs.JoinedBodies.{Ended}
-use Rattle.starlark_cutting.proofs.KeptRemarks.{ended_behind, full_ended}
+use Rattle.starlark_cutting.proofs.KeptRemarks.{ended_some, ended_behind, full_ended}
 use Rattle.starlark_cutting.proofs.KeptMoves.{At, BodyFits, Fresh, fresh_body, first_kept, stands_kept}
 use Rattle.starlark_cutting.proofs.KeptSteps.{blank_kept, remark_kept, remark_len}
+use Rattle.starlark_cutting.proofs.KeptFinal.{behind_all}
 use Rattle.starlark_cutting.proofs.KeptPuts.{counted}
 use Rattle.starlark_cutting.proofs.KeptReach.{is_line}
 
@@ -18,26 +20,14 @@ pub record Ends (p : Past) (xs : List Item) (q : Past) (u v : List ℕ) : Type 0
   pub ended : Ended u
   pub step : (o : List ℕ) → Step p (u ++ o) (on xs q o)
 
-no_bytes : (w : List ℕ) → length w ≡ 0 → w ≡ []
-no_bytes [] e = refl
-no_bytes (b ∷ w) e = absurd (omega (arith, e))
-
-ended_some : (u : List ℕ) → Ended u → 0 < length u
-ended_some [] h = absurd h
-ended_some (b ∷ u) h = omega arith
-
 ten_not : (b : ℕ) → b ≡ 13 → b ≡ 10 → ⊥
 ten_not b e h = omega (arith, e, h)
 
 ended_at : (p : Past) (u v : List ℕ) → Fresh p → p.fresh ≡ true → Ended u → At p u v
 ended_at p u v fr f h = record { holds = record { some = ended_some u h; not_cr = λ e. ten_not 13 refl (subst Ended e h) }; body = fresh_body p u v fr f }
 
-all_of : (p : Past) (xs : List Item) (q : Past) (u o : List ℕ) (k : ℕ) → k ≡ length u → Step p (u ++ o) (on xs q (drop k (u ++ o))) → Step p (u ++ o) (on xs q o)
-all_of p xs q u o k e step =
-    let all : drop k (u ++ o) ≡ o = drop-append-le k u o (omega (arith, e)) ∙ ap (λ w. w ++ o) (drop_all k u (omega (arith, e))) in
-    subst (λ w. Step p (u ++ o) (on xs q w)) all step
-
-behind_front : (k : ℕ) (u w : List ℕ) → drop k u ≡ w → Ended w → Ended u
+-- a text ends as what is left of it does
+pub behind_front : (k : ℕ) (u w : List ℕ) → drop k u ≡ w → Ended w → Ended u
 behind_front k u w e h = subst Ended (take-append-drop k u) (ended_behind (take k u) (drop k u) (subst Ended (sym e) h))
 
 abbrev pub LeadsTo : Past → List ℕ → Move → Type 0
@@ -52,12 +42,12 @@ pub leads : {p : Past} {rest : List ℕ} {m : Move} → Step p rest m → Fresh 
 leads (rules.blank_line p rest more f e) fr = λ u v is at g c.
     let le : leading rest + 1 ≤ length u = omega (arith, at) in
     let s = stands_kept rest u v [] 10 more is (omega (arith, le)) e in
-    let none = no_bytes s.0 (omega (arith, at, ap length s.1.0, length-drop (leading rest) u)) in
+    let none = nil_from_length s.0 (omega (arith, at, ap length s.1.0, length-drop (leading rest) u)) in
     let ended : Ended u = behind_front (leading rest) u (10 ∷ []) (s.1.0 ∙ ap (λ w. 10 ∷ w) none) refl in
     record {
       at = ended_at p u v fr f ended;
       ended = ended;
-      step = λ o. all_of p _ _ u o (leading rest + 1) (omega (arith, at)) (blank_kept p rest more u v o f e is le);
+      step = λ o. behind_all p _ _ u o (leading rest + 1) (omega (arith, at)) (blank_kept p rest more u v o f e is le);
     }
 leads (rules.remark_line p rest more f e) fr = λ u v is at g c.
     let l = leading rest in
@@ -71,17 +61,13 @@ leads (rules.remark_line p rest more f e) fr = λ u v is at g c.
     let lens : length more ≡ length w + length v = ap length s.1.1.0 ∙ length-append w v in
     let vs : 0 < length v = omega (arith, lt, same, ap length is, length-append u v) in
     let tail : Ended (take (line_len more + line_end (drop (line_len more) more)) more) = full_ended more (omega (arith, whole, lens, vs)) in
-    let cut : take (line_len more + line_end (drop (line_len more) more)) more ≡ w = ap (λ n. take n more) whole ∙ ap (take (length w)) s.1.1.0 ∙ take_all w v in
+    let cut : take (line_len more + line_end (drop (line_len more) more)) more ≡ w = ap (λ n. take n more) whole ∙ ap (take (length w)) s.1.1.0 ∙ take-append_seam w v in
     let ended : Ended u = behind_front l u (35 ∷ w) s.1.0 (ended_behind (35 ∷ []) w (subst Ended cut tail)) in
     record {
       at = ended_at p u v fr f ended;
       ended = ended;
-      step = λ o. all_of p _ _ u o k same (remark_kept p rest more u v o f e is (omega (arith, same)) lt);
+      step = λ o. behind_all p _ _ u o k same (remark_kept p rest more u v o f e is (omega (arith, same)) lt);
     }
-  where
-    take_all : (w o : List ℕ) → take (length w) (w ++ o) ≡ w
-    take_all [] o = refl
-    take_all (b ∷ w) o = let e : length (b ∷ w) ≡ suc (length w) = omega arith in ap (λ k. take k (b ∷ w ++ o)) e ∙ ap (λ t. b ∷ t) (take_all w o)
 leads (rules.last_line p rest closed f e c) fr = tt
 leads (rules.tabbed p rest m t) fr = tt
 leads (rules.deepens p rest m t d) fr = λ u v is at g c. absurd (false≢true g)
@@ -92,7 +78,7 @@ leads (rules.escapes p rest f c d) fr = λ u v is at g e. absurd (false≢true g
 leads (rules.joins p rest f d) fr = λ u v is at g e. absurd (false≢true g)
 leads (rules.ends_line p rest f c d) fr = λ u v is at g e.
     let s = first_kept 10 rest u v is (omega (arith, at)) in
-    let none = no_bytes s.0 (omega (arith, at, ap length s.1.0)) in
+    let none = nil_from_length s.0 (omega (arith, at, ap length s.1.0)) in
     let one : u ≡ 10 ∷ [] = s.1.0 ∙ ap (λ w. 10 ∷ w) none in
     let ended : Ended u = subst Ended (sym one) refl in
     record {

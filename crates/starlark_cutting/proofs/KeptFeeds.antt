@@ -2,21 +2,14 @@
 use Rattle.std.proofs.Common.{◌≡◌, ◌<◌, ◌≤◌, ℕ, ◌+◌, Bool, true, false, cond, ◌&&◌, List, [], ◌∷◌, ◌++◌, length, drop, refl, ap, sym, ◌∙◌, arith, suc, inl, inr, eqb, subst, one-add, append_assoc, length-append}
 use Rattle.std.specs.List.{list_all}
 use Rattle.std.proofs.Math.Seq.{drop-append_seam}
-use Rattle.std.proofs.lemmas.Bool.{cases_Bool, false≢true}
+use Rattle.std.proofs.lemmas.Bool.{cases_Bool, false≢true, and_parts, and_from}
 use Rattle.std.proofs.lemmas.Bool.Decides.{nat_tests}
 use Rattle.std.proofs.lemmas.List.{append-nil}
 use Rattle.starlark_lexer.specs.Classes.{is_blank, leading, line_end, line_len}
 use Rattle.starlark_cutting.proofs.KeptLines.{Stops}
-use Rattle.starlark_cutting.proofs.KeptRemarks.{len_zero, len_more, len_nil, whole_len, full_kept}
+use Rattle.starlark_cutting.proofs.KeptRemarks.{len_zero, len_more, len_nil, end_two, whole_len, full_kept}
 
 -- ---- blanks
-
-pub and_yes : (a b : Bool) → (a && b) ≡ true → (a ≡ true) × (b ≡ true)
-and_yes true b h = (refl, h)
-and_yes false b h = absurd (false≢true h)
-
-pub joint : (a b : Bool) → a ≡ true → b ≡ true → (a && b) ≡ true
-joint a b h k = rw (h, k) refl
 
 abbrev pub all_blank : List ℕ → Bool
 all_blank = list_all is_blank
@@ -24,23 +17,20 @@ all_blank = list_all is_blank
 pub blank_all : (bs : List ℕ) → leading bs ≡ length bs → all_blank bs ≡ true
 blank_all [] h = refl
 blank_all (b ∷ bs) h = elim (cases_Bool (is_blank b)) [
-  | inl t ↦ let n : 1 + leading bs ≡ length (b ∷ bs) = rw t at h in joint (is_blank b) (all_blank bs) t (blank_all bs (omega (arith, n)))
+  | inl t ↦ let n : 1 + leading bs ≡ length (b ∷ bs) = rw t at h in and_from (is_blank b) (all_blank bs) t (blank_all bs (omega (arith, n)))
   | inr f ↦ absurd (let n : 0 ≡ length (b ∷ bs) = rw f at h in omega (arith, n))
 ]
 
-pub lead_feed : (bs t : List ℕ) → all_blank bs ≡ true → leading (bs ++ 10 ∷ t) ≡ length bs
-lead_feed [] t h = refl
-lead_feed (b ∷ bs) t h =
-    let k = and_yes (is_blank b) (all_blank bs) h in
+pub lead_before : (bs : List ℕ) (c : ℕ) (t : List ℕ) → is_blank c ≡ false → all_blank bs ≡ true → leading (bs ++ c ∷ t) ≡ length bs
+lead_before [] c t not h = ap (λ x. cond x (1 + leading t) 0) not
+lead_before (b ∷ bs) c t not h =
+    let k = and_parts (is_blank b) (all_blank bs) h in
     let e : length (b ∷ bs) ≡ 1 + length bs = omega arith in
-    step (is_blank b) (leading (bs ++ 10 ∷ t)) k.0 ∙ ap (λ n. 1 + n) (lead_feed bs t k.1) ∙ sym e
-  where
-    step : (t : Bool) (n : ℕ) → t ≡ true → cond t (1 + n) 0 ≡ 1 + n
-    step t n e = rw e refl
+    ap (λ x. cond x (1 + leading (bs ++ c ∷ t)) 0) k.0 ∙ ap (λ n. 1 + n) (lead_before bs c t not k.1) ∙ sym e
 
 pub stops_blank : (bs : List ℕ) → all_blank bs ≡ true → Stops (bs ++ 10 ∷ [])
 stops_blank [] h = refl
-stops_blank (b ∷ bs) h = let k = and_yes (is_blank b) (all_blank bs) h in let t = k.0 in rw t refl
+stops_blank (b ∷ bs) h = let k = and_parts (is_blank b) (all_blank bs) h in let t = k.0 in rw t refl
 
 -- behind all the blanks stands none
 pub none_behind : (rest more : List ℕ) (c : ℕ) → drop (leading rest) rest ≡ c ∷ more → is_blank c ≡ false
@@ -89,16 +79,12 @@ no_cr false = refl
 
 end_blank : (b : ℕ) (bs : List ℕ) → all_blank (b ∷ bs) ≡ true → line_end (b ∷ bs) ≡ 0
 unfolding line_end
-end_blank b [] h = let f = blank_ten b (and_yes (is_blank b) true h).0 in rw f (no_cr (eqb b 13))
+end_blank b [] h = let f = blank_ten b (and_parts (is_blank b) true h).0 in rw f (no_cr (eqb b 13))
 end_blank b (c ∷ bs) h =
-    let k = and_yes (is_blank b) (all_blank (c ∷ bs)) h in
+    let k = and_parts (is_blank b) (all_blank (c ∷ bs)) h in
     let f = blank_ten b k.0 in
-    let g = blank_ten c (and_yes (is_blank c) (all_blank bs) k.1).0 in
+    let g = blank_ten c (and_parts (is_blank c) (all_blank bs) k.1).0 in
     rw (f, g) (no_cr (eqb b 13))
-
-end_two : (b c : ℕ) (bs s : List ℕ) → line_end (b ∷ c ∷ bs ++ s) ≡ line_end (b ∷ c ∷ bs)
-unfolding line_end
-end_two b c bs s = refl
 
 -- where only blanks stand behind a line, it has no end
 pub all_line : (c : List ℕ) → all_blank (drop (line_len c) c) ≡ true → line_len c ≡ length c
@@ -136,7 +122,7 @@ fed_one b t z =
             cr = b ∷ [];
             is = refl;
             len = len_zero b (10 ∷ t) (ap (λ k. eqb k 0) two);
-            blank = joint (is_blank b) true (thirteen b r).0 refl;
+            blank = and_from (is_blank b) true (thirteen b r).0 refl;
             end = two;
           }
       | inr r ↦
@@ -158,7 +144,7 @@ fed_more b c bs t z r =
       text = b ∷ r.text;
       cr = r.cr;
       is = ap (λ y. b ∷ y) r.is;
-      len = len_more b (c ∷ bs ++ 10 ∷ t) (ap (λ k. eqb k 0) (end_two b c bs (10 ∷ t)) ∙ z) ∙ ap suc r.len ∙ more;
+      len = len_more b (c ∷ bs ++ 10 ∷ t) (ap (λ k. eqb k 0) (end_two b c (bs ++ 10 ∷ t) bs) ∙ z) ∙ ap suc r.len ∙ more;
       blank = r.blank;
       end = r.end;
     }

@@ -1,5 +1,6 @@
 -- A text that is cut off behind a line end, with a line of the innermost open width behind it.
 use Rattle.std.proofs.Common.{◌≡◌, ◌≤◌, ℕ, ◌+◌, Bool, true, false, cond, ◌||◌, List, [], ◌∷◌, ◌++◌, length, refl, ap, sym, ◌∙◌, arith, inl, inr, eqb, ltb, subst}
+use Rattle.std.proofs.Math.Seq.{drop-append_seam}
 use Rattle.std.proofs.lemmas.Bool.{cases_Bool, false≢true}
 use Rattle.std.proofs.lemmas.Bool.Decides.{nat_tests}
 use Rattle.starlark_lexer.specs.Items.{Item, newline}
@@ -14,7 +15,8 @@ use Rattle.starlark_cutting.proofs.KeptTracks.{tracks}
 use Rattle.starlark_cutting.proofs.KeptPuts.{Among}
 use Rattle.starlark_cutting.proofs.KeptFresh.{Begun}
 use Rattle.starlark_cutting.proofs.KeptLayouts.{line_begun}
-use Rattle.starlark_cutting.proofs.KeptDeeper.{lead, drop_front, measured, same_blanks, pass_bytes, pass_line}
+use Rattle.starlark_cutting.proofs.KeptFeeds.{lead_before}
+use Rattle.starlark_cutting.proofs.KeptDeeper.{measured, same_blanks, pass_bytes, pass_line}
 use Rattle.starlark_cutting.proofs.KeptIndents.{all_blank, no_tab, wide}
 
 -- ---- the widest of the widths
@@ -94,8 +96,8 @@ module _ (u : List ℕ) (xs : List Item) (q : Past) (b : Begun u xs q) where
       let w : n ≡ width rest = sym (ap spaces (same_blanks bs r blank) ∙ wide n) in
       let s = rules.fits q rest [] (measured q b.begins.fresh bs r blank) (ap has_tab (same_blanks bs r blank) ∙ no_tab n) (subst (IsOpen q.lines) w o.0) (subst (λ k. Closes q.lines k []) w o.1) in
       let t : Step q rest (fitted q n 0 (leading rest) rest) = subst (λ k. Step q rest (fitted q k 0 (leading rest) rest)) (sym w) s in
-      let v : Step q rest (fitted q n 0 (length bs) rest) = subst (λ k. Step q rest (fitted q n 0 k rest)) (lead bs r blank) t in
-      subst (λ k. Step q rest (on [] even_past k)) (drop_front bs (112 ∷ r)) v
+      let v : Step q rest (fitted q n 0 (length bs) rest) = subst (λ k. Step q rest (fitted q n 0 k rest)) (lead_before bs 112 r refl blank) t in
+      subst (λ k. Step q rest (on [] even_past k)) (drop-append_seam bs (112 ∷ r)) v
 
   pub filled_text : IsFilled u xs
   filled_text =

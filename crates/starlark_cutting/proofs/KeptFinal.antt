@@ -1,7 +1,7 @@
 -- The step whose item ends where what is kept of a text ends: it is one there where a blank or a line feed stands behind.
-use Rattle.std.proofs.Common.{◌≡◌, ◌<◌, ◌≤◌, ℕ, ◌+◌, ◌-◌, Bool, false, List, [], ◌∷◌, ◌++◌, length, take, drop, refl, ap, sym, ◌∙◌, arith, zero, suc, inl, inr, eqb, subst}
+use Rattle.std.proofs.Common.{◌≡◌, ◌≤◌, ℕ, ◌+◌, ◌-◌, Bool, false, List, [], ◌∷◌, ◌++◌, length, take, drop, refl, ap, sym, ◌∙◌, arith, zero, suc, inl, inr, eqb, subst}
 use Rattle.std.specs.Prelude.{Option, Some, None}
-use Rattle.std.proofs.lemmas.List.{drop-append-le, drop_all}
+use Rattle.std.proofs.Math.Seq.{drop-append_seam}
 use Rattle.starlark_lexer.specs.declared.literal.Form.{Form}
 use Rattle.starlark_lexer.specs.declared.literal.Ending.{Ending}
 use Rattle.starlark_lexer.specs.declared.literal.Ending.TheVariants as ending
@@ -10,10 +10,10 @@ use Rattle.starlark_lexer.specs.declared.token.FStringQuote.{FStringQuote}
 use Rattle.starlark_lexer.specs.declared.token.FStringQuote.TheVariants.{Single, Double, TripleSingle, TripleDouble}
 use Rattle.starlark_lexer.specs.Items.{Lexeme, Item, dedents, fstring_end}
 use Rattle.starlark_lexer.specs.Literals.{body, read, by_piece, piece, mark, later, quotes, value, is_format}
-use Rattle.starlark_lexer.specs.Depth.{Bracket}
 use Rattle.starlark_lexer.specs.Classes.{Meaning, meaning, token, opens, IsLexeme}
 use Rattle.starlark_lexer.specs.Lex.{Mode, Past, Move, Step, on, over, mode_behind, below, gives, turns, literal_lexeme, IsPlain}
 use Rattle.starlark_lexer.specs.Lex as rules
+use Rattle.starlark_lexer.proofs.Cuts.{quotes_some}
 use Rattle.starlark_cutting.specs.Cutting.{inner}
 use Rattle.starlark_cutting.proofs.Clean.{stop_none}
 use Rattle.starlark_cutting.proofs.KeptLines.{Stops, lexeme_kept}
@@ -38,9 +38,6 @@ code_behind (rules.field b g bs) x e = absurd (cc)
 
 pub inside_code : (b : ℕ) (g : Form) → rules.inside b g ≡ rules.code → ⊥
 inside_code b g e = cc
-
-pub field_code : (b : ℕ) (g : Form) (bs : List Bracket) → rules.field b g bs ≡ rules.code → ⊥
-field_code b g bs e = cc
 
 -- ---- a CR alone is no lexeme, and ends no literal
 
@@ -73,12 +70,6 @@ pub body_cr : (g : Form) (v : List ℕ) → body g 0 (13 ∷ v) ≡ ending.Close
 unfolding read
 body_cr g v e = later_not (read g 0 v).ending (ap (λ p. (by_piece p (13 ∷ v) (λ k. read g (k - 1) v)).ending) (sym (cr_piece g v)) ∙ e)
 
-pub quotes_some : (q : FStringQuote) → 0 < quotes q
-quotes_some Single = omega arith
-quotes_some Double = omega arith
-quotes_some TripleSingle = omega arith
-quotes_some TripleDouble = omega arith
-
 -- ---- the step
 
 pub record Stepped (p : Past) (xs : List Item) (q : Past) (u v : List ℕ) : Type 0 where
@@ -87,9 +78,7 @@ pub record Stepped (p : Past) (xs : List Item) (q : Past) (u v : List ℕ) : Typ
   pub fresh : q.fresh ≡ false
 
 pub behind_all : (p : Past) (xs : List Item) (q : Past) (u o : List ℕ) (k : ℕ) → k ≡ length u → Step p (u ++ o) (on xs q (drop k (u ++ o))) → Step p (u ++ o) (on xs q o)
-behind_all p xs q u o k e step =
-    let all : drop k (u ++ o) ≡ o = drop-append-le k u o (omega (arith, e)) ∙ ap (λ w. w ++ o) (drop_all k u (omega (arith, e))) in
-    subst (λ w. Step p (u ++ o) (on xs q w)) all step
+behind_all p xs q u o k e step = subst (λ w. Step p (u ++ o) (on xs q w)) (ap (λ n. drop n (u ++ o)) e ∙ drop-append_seam u o) step
 
 -- A step that ends where what is kept ends, among lexemes.
 abbrev pub Ends : Past → List ℕ → Move → Type 0

@@ -1,6 +1,6 @@
 -- A text that is cut off where a line begins: it is cut into the same up to there, whatever stands behind.
-use Rattle.std.proofs.Common.{◌≡◌, ◌<◌, ◌≤◌, ℕ, ◌+◌, true, List, [], ◌∷◌, ◌++◌, length, drop, refl, ap, sym, ◌∙◌, arith, zero, suc, inl, inr, subst, append_assoc, length-drop}
-use Rattle.std.proofs.lemmas.List.{drop-append-le, append-nil}
+use Rattle.std.proofs.Common.{◌≡◌, ◌<◌, ◌≤◌, ℕ, ◌+◌, true, List, [], ◌∷◌, ◌++◌, length, drop, refl, ap, sym, ◌∙◌, arith, inl, inr, subst, length-drop}
+use Rattle.std.proofs.lemmas.List.{drop-append-le, append-nil, nil_from_length}
 use Rattle.starlark_lexer.specs.Items.{Item, item, Lexed, nothing, newline, dedents, with_items}
 use Rattle.starlark_lexer.specs.Widths.{Closes}
 use Rattle.starlark_lexer.specs.Lex.{Past, Lex, goes_on, is_over, start, IsBalanced}
@@ -12,9 +12,9 @@ use Rattle.starlark_lexer.proofs.JoinedBodies.{Ended}
 use Rattle.starlark_cutting.proofs.KeptMoves.{At, Fresh}
 use Rattle.starlark_cutting.proofs.KeptSteps.{goes}
 use Rattle.starlark_cutting.proofs.KeptTracks.{Tracks, tracks}
-use Rattle.starlark_cutting.proofs.KeptCut.{both_tracks}
+use Rattle.starlark_cutting.proofs.KeptCut.{joint_items, both_tracks}
 use Rattle.starlark_cutting.proofs.KeptReach.{Reach, Lines, last, before, lines_of, far_lines}
-use Rattle.starlark_cutting.proofs.KeptEnds.{leads, Even, evens}
+use Rattle.starlark_cutting.proofs.KeptEnds.{behind_front, leads, Even, evens}
 
 -- what stands before a line's beginning
 pub record Begins (q : Past) : Type 0 where
@@ -47,26 +47,15 @@ lined (before p rest xs q left ys r w step far) u v is at nest fr even =
     let fits : k.k ≤ length u = omega (arith, k.place, le, at) in
     let more : left ≡ drop k.k u ++ v = k.is ∙ ap (drop k.k) is ∙ drop-append-le k.k u v fits in
     let c = lined far (drop k.k u) v more (omega (arith, at, k.place, fits, length-drop k.k u)) t.nest t.fresh (evens step fr even) in
-    let ended : Ended u = still k.k u c.ended in
+    let ended : Ended u = behind_front k.k u (drop k.k u) refl c.ended in
     record {
       at = (k.go u v [] is fits c.at (inr ended)).0;
       ended = ended;
       begins = c.begins;
       tracks = both_tracks p xs q ys r t c.tracks;
       lex = λ o m d.
-          let both : with_items xs (with_items ys m) ≡ with_items (xs ++ ys) m = λ i. record { items = sym (append_assoc xs ys m.items) i; fault = m.fault } in
-          subst (Lex p (u ++ o)) both (goes_on p (u ++ o) xs q (drop k.k u ++ o) (with_items ys m) (k.go u v o is fits c.at (inr ended)).1 (c.lex o m d));
+          subst (Lex p (u ++ o)) (joint_items xs ys m) (goes_on p (u ++ o) xs q (drop k.k u ++ o) (with_items ys m) (k.go u v o is fits c.at (inr ended)).1 (c.lex o m d));
     }
-  where
-    still : (k : ℕ) (u : List ℕ) → Ended (drop k u) → Ended u
-    still zero [] h = absurd h
-    still zero (b ∷ u) h = h
-    still (suc k) [] h = absurd h
-    still (suc k) (b ∷ u) h = cons b u (still k u h)
-      where
-        cons : (b : ℕ) (u : List ℕ) → Ended u → Ended (b ∷ u)
-        cons b [] h = absurd h
-        cons b (c ∷ u) h = h
 
 -- ---- from the start
 
@@ -81,10 +70,6 @@ begun_lines l u v is at =
     let c = lined l u v is (omega (arith, at)) tt (λ _. refl) (λ _. refl) in
     record { place = at; begins = c.begins; tracks = c.tracks; lex = c.lex }
 
-pub no_bytes : (w : List ℕ) → length w ≡ 0 → w ≡ []
-no_bytes [] e = refl
-no_bytes (b ∷ w) e = absurd (omega (arith, e))
-
 pub nothing_yet : Begun [] [] start
 nothing_yet = record {
   place = refl;
@@ -97,7 +82,7 @@ pub begun : {text : List ℕ} {xs : List Item} {q : Past} {w : List ℕ} → Rea
 begun {text} {xs} {q} r f some u v is at = elim (lines_of r f some) [
   | inr l ↦ begun_lines l u v is at
   | inl e ↦
-      let none : u ≡ [] = no_bytes u (omega (arith, at, ap (λ p. p.place) e.1)) in
+      let none : u ≡ [] = nil_from_length u (omega (arith, at, ap (λ p. p.place) e.1)) in
       subst (λ s. Begun s xs q) (sym none) (subst (λ ys. Begun [] ys q) (sym e.0) (subst (λ p. Begun [] [] p) (sym e.1) nothing_yet))
 ]
 

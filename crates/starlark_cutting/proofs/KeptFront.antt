@@ -10,7 +10,7 @@ use Rattle.starlark_cutting.proofs.KeptLines.{Stops}
 use Rattle.starlark_cutting.proofs.KeptMoves.{At, Fresh}
 use Rattle.starlark_cutting.proofs.KeptSteps.{goes}
 use Rattle.starlark_cutting.proofs.KeptTracks.{Tracks, tracks}
-use Rattle.starlark_cutting.proofs.KeptCut.{both_tracks}
+use Rattle.starlark_cutting.proofs.KeptCut.{joint_items, both_tracks}
 use Rattle.starlark_cutting.proofs.KeptReach.{Reach, stays, more}
 
 -- u is kept at the first place, and w of it at the other
@@ -39,9 +39,8 @@ fronts (more p rest xs q left ys r x step far) w v is at nest fr =
         record {
           at = (k.go u v (10 ∷ []) whole fits there (inl refl)).0;
           lex = λ o s m d.
-              let both : with_items xs (with_items ys m) ≡ with_items (xs ++ ys) m = λ i. record { items = sym (append_assoc xs ys m.items) i; fault = m.fault } in
               let first : Step p (u ++ o) (on xs q (f.0 ++ o)) = subst (λ y. Step p (u ++ o) (on xs q (y ++ o))) cut (k.go u v o whole fits there (inl s)).1 in
-              subst (Lex p (u ++ o)) both (goes_on p (u ++ o) xs q (f.0 ++ o) (with_items ys m) first (f.1.1.lex o s m d));
+              subst (Lex p (u ++ o)) (joint_items xs ys m) (goes_on p (u ++ o) xs q (f.0 ++ o) (with_items ys m) first (f.1.1.lex o s m d));
         },
       ),
     )

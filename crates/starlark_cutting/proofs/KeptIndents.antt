@@ -1,7 +1,7 @@
 -- A text that is cut off behind a line end, with a deeper line behind it, and one that is cut off behind an Indent.
-use Rattle.std.proofs.Common.{◌≡◌, ◌≤◌, ℕ, ◌+◌, Bool, true, false, cond, ◌&&◌, ◌||◌, List, [], ◌∷◌, ◌++◌, length, take, drop, refl, ap, sym, ◌∙◌, arith, zero, suc, inl, inr, eqb, subst, append_assoc, length-append}
-use Rattle.std.specs.List.{list_all, prefix_len}
-use Rattle.std.proofs.lemmas.Bool.{cases_Bool, cases_lt, false≢true}
+use Rattle.std.proofs.Common.{◌≡◌, ◌≤◌, ℕ, ◌+◌, true, false, cond, List, [], ◌∷◌, ◌++◌, length, take, drop, refl, ap, sym, ◌∙◌, arith, zero, suc, inl, inr, eqb, subst, append_assoc, length-append}
+use Rattle.std.specs.List.{list_all}
+use Rattle.std.proofs.lemmas.Bool.{cases_Bool, cases_lt, false≢true, and_from, or_from}
 use Rattle.std.proofs.lemmas.Bool.Decides.{nat_tests}
 use Rattle.std.proofs.lemmas.List.{append-nil, take-append-drop, length-take-le}
 use Rattle.std.proofs.lemmas.List.Folds.{list_all-append, list_any-append}
@@ -14,6 +14,7 @@ use Rattle.starlark_lexer.specs.Joining.{is_indent}
 use Rattle.starlark_cutting.specs.Cutting.{IsCutAt, IsIndented, IsDeepened, indented_line, blanks_of}
 use Rattle.starlark_lexer.proofs.Widths.{IsStack, no_lines}
 use Rattle.starlark_lexer.proofs.Joined.{Nest}
+use Rattle.starlark_lexer.proofs.Runs.{list_all_run}
 use Rattle.starlark_cutting.proofs.KeptMoves.{Fresh}
 use Rattle.starlark_cutting.proofs.KeptSteps.{goes}
 use Rattle.starlark_cutting.proofs.KeptTracks.{tracks}
@@ -91,16 +92,6 @@ same_front (x ∷ a) b (y ∷ c) d e h =
     let l : length a ≡ length c = omega (arith, h) in
     let r = same_front a b c d t l in λ i. s i ∷ r i
 
-blanks_all : (rest : List ℕ) → list_all is_blank (blanks rest) ≡ true
-blanks_all rest = front_all is_blank rest
-  where
-    front_all : (p : ℕ → Bool) (xs : List ℕ) → list_all p (take (prefix_len p xs) xs) ≡ true
-    front_all p [] = refl
-    front_all p (x ∷ xs) = elim (cases_Bool (p x)) [
-      | inl t ↦ let e : 1 + prefix_len p xs ≡ suc (prefix_len p xs) = omega arith in rw (t, e, t) (front_all p xs)
-      | inr f ↦ rw f refl
-    ]
-
 record Deeper (p : Past) (rest : List ℕ) (first : List Item) (z : Item) : Type 0 where
   first_is : first ≡ []
   is : z ≡ item p.place indent (p.place + leading rest)
@@ -113,12 +104,6 @@ indent_given first z step (line a b c d e w) n = absurd (false≢true (ap is_ind
 indent_given first z step (shallower k a b m c) n = absurd (false≢true (ap (λ x. is_indent x.lexeme) (sym b) ∙ ap is_indent n))
 indent_given first z step (deeper a b m t d) n = record { first_is = a; is = b; measured = m; tab = t; deep = d }
 indent_given first z step (other a) n = absurd (false≢true (sym a ∙ ap layout n))
-
-no_or : (a b : Bool) → a ≡ false → b ≡ false → (a || b) ≡ false
-no_or a b h k = rw (h, k) refl
-
-both : (a b : Bool) → a ≡ true → b ≡ true → (a && b) ≡ true
-both a b h k = rw (h, k) refl
 
 -- the text with a wider line in place of the Indent
 reworked : (u w bs : List ℕ) (xs ys : List Item) → u ≡ w ++ bs → ys ≡ xs → IsIndented w (bs ++ 32 ∷ []) xs → IsIndented u (32 ∷ []) ys
@@ -144,7 +129,7 @@ behind_indent u v before z behind c n =
           let whole : u ++ v ≡ (w.0 ++ bs) ++ drop k f.left = w.1.0 ∙ ap (λ y. w.0 ++ y) (sym (take-append-drop k f.left)) ∙ sym (append_assoc w.0 bs (drop k f.left)) in
           let b = begun f.reach g.measured.fresh (measured_some f.past f.left g.measured) w.0 f.left w.1.0 at in
           let wide : spaces (bs ++ 32 ∷ []) ≡ spaces bs + 1 = sum_by-append (λ x. cond (eqb x 32) 1 0) bs (32 ∷ []) in
-          let i = deepened_text w.0 f.front f.past b (bs ++ 32 ∷ []) (list_all-append is_blank bs (32 ∷ []) ∙ both _ _ (blanks_all f.left) refl) (list_any-append (λ x. eqb x 9) bs (32 ∷ []) ∙ no_or _ _ g.tab refl)
+          let i = deepened_text w.0 f.front f.past b (bs ++ 32 ∷ []) (list_all-append is_blank bs (32 ∷ []) ∙ and_from _ _ (list_all_run is_blank f.left) refl) (list_any-append (λ x. eqb x 9) bs (32 ∷ []) ∙ or_from _ _ g.tab refl)
           (λ x o. omega (arith, wide, g.deep x o)) in
           reworked u w.0 bs f.front before (same_front u v (w.0 ++ bs) (drop k f.left) whole (sym len)) (f.is ∙ ap (λ y. f.front ++ y) g.first_is ∙ append-nil f.front) i
     ]

@@ -3,11 +3,13 @@ use Rattle.std.proofs.Common.{◌≡◌, ◌<◌, ◌≤◌, ◌⊎◌, ℕ, ◌
 use Rattle.std.specs.Prelude.{Option, Some, None}
 use Rattle.std.proofs.lemmas.Bool.{cases_Bool, cases_lt}
 use Rattle.std.proofs.lemmas.Bool.Decides.{nat_tests}
-use Rattle.std.proofs.lemmas.List.{get_or-take, get_or_append_left, length-take-le, take-append-le}
+use Rattle.std.proofs.lemmas.List.{get_or-take, get_or_append_left, length-take-le}
 use Rattle.starlark_lexer.specs.declared.token.LexemeError.TheVariants.{InvalidInput}
 use Rattle.starlark_lexer.specs.Literals.{opening_of, prefix_of, quote_of, letters, opened}
 use Rattle.starlark_lexer.specs.Classes.{Meaning, meaning, token, refused, opens, operator_of, is_other, when, IsLexeme, begins_line, line_end, line_len, escaped, closes_field}
 use Rattle.starlark_cutting.proofs.Clean.{clean, stop_none}
+use Rattle.starlark_cutting.proofs.KeptBodies.{take_kept}
+use Rattle.starlark_cutting.proofs.KeptRemarks.{len_zero, len_more, end_two, ended_some}
 use Rattle.starlark_lexer.proofs.JoinedBodies.{Ended}
 
 -- a blank or a line feed stands first
@@ -30,10 +32,6 @@ last_of [] h = absurd h
 last_of (b ∷ []) h = h
 last_of (b ∷ c ∷ bs) h = let e : length (b ∷ c ∷ bs) - 1 ≡ suc (length (c ∷ bs) - 1) = omega arith in ap (λ k. get_or (b ∷ c ∷ bs) k 0) e ∙ last_of (c ∷ bs) h
 
-ended_some : (xs : List ℕ) → Ended xs → 0 < length xs
-ended_some [] h = absurd h
-ended_some (b ∷ bs) h = omega arith
-
 pub past_none : (u s : List ℕ) (k : ℕ) → Barred u s → length u < k → k ≤ length (u ++ s) → meaning (take k (u ++ s)) ≡ None
 past_none u [] k (inl h) far fits = absurd h
 past_none u (b ∷ bs) k (inl h) far fits =
@@ -45,18 +43,20 @@ past_none u s k (inr h) far fits =
     stop_none (take k (u ++ s)) (length u - 1) (omega (arith, len, far))
     (ap clean (get_or-take k (u ++ s) (length u - 1) 0 (omega (arith, far)) ∙ get_or_append_left u s 0 (length u - 1) (omega (arith, some)) ∙ last_of u h))
 
+-- a lexeme is one with other bytes behind it where none reaches over what is kept
+pub lexeme_longest : (u v s : List ℕ) (n : ℕ) (m : Meaning) → IsLexeme (u ++ v) n m → n ≤ length u → ((k : ℕ) → length u < k → k ≤ length (u ++ s) → meaning (take k (u ++ s)) ≡ None) → IsLexeme (u ++ s) n m
+lexeme_longest u v s n m h le none = record {
+  nonempty = h.nonempty;
+  within = omega (arith, le, length-append u s);
+  means = ap meaning (take_kept (u ++ v) u v s n refl le) ∙ h.means;
+  longest = λ k more fits. elim (cases_lt (length u) k) [
+    | inr l ↦ ap meaning (take_kept (u ++ v) u v s k refl l) ∙ h.longest k more (omega (arith, l, length-append u v))
+    | inl far ↦ none k far fits
+  ];
+}
+
 pub lexeme_kept : (u v s : List ℕ) (n : ℕ) (m : Meaning) → IsLexeme (u ++ v) n m → n ≤ length u → Barred u s → IsLexeme (u ++ s) n m
-lexeme_kept u v s n m h le bar =
-    let same : (k : ℕ) → k ≤ length u → take k (u ++ s) ≡ take k (u ++ v) = λ k l. take-append-le k u s l ∙ sym (take-append-le k u v l) in
-    record {
-      nonempty = h.nonempty;
-      within = omega (arith, le, length-append u s);
-      means = ap meaning (same n le) ∙ h.means;
-      longest = λ k more fits. elim (cases_lt (length u) k) [
-        | inr l ↦ ap meaning (same k l) ∙ h.longest k more (omega (arith, l, length-append u v))
-        | inl far ↦ past_none u s k bar far fits
-      ];
-    }
+lexeme_kept u v s n m h le bar = lexeme_longest u v s n m h le (λ k far fits. past_none u s k bar far fits)
 
 -- ---- a backslash begins none
 
@@ -159,17 +159,6 @@ end_one : (b : ℕ) (v : List ℕ) → eqb b 13 ≡ false → line_end (b ∷ v)
 unfolding line_end
 end_one b v e = rw e refl
 
-end_two : (b c : ℕ) (u v s : List ℕ) → line_end (b ∷ c ∷ u ++ s) ≡ line_end (b ∷ c ∷ u ++ v)
-unfolding line_end
-end_two b c u v s = refl
-
-abbrev len_by : ℕ → ℕ → ℕ
-len_by e n = cond (eqb e 0) (suc n) 0
-
-len_cons : (b : ℕ) (bs : List ℕ) → line_len (b ∷ bs) ≡ len_by (line_end (b ∷ bs)) (line_len bs)
-unfolding line_len
-len_cons b bs = refl
-
 not_cr : (b : ℕ) → (b ∷ [] ≡ 13 ∷ [] → ⊥) → eqb b 13 ≡ false
 not_cr b h = elim (cases_Bool (eqb b 13)) [ inr f ↦ f | inl t ↦ let e : b ≡ 13 = grind (arith, nat_tests) in absurd (h (ap (λ c. c ∷ []) e)) ]
 
@@ -178,21 +167,21 @@ pub len_kept : (u v s : List ℕ) → Holds (drop (line_len (u ++ v)) u) → lin
 len_kept [] v s h = absurd (let k = h.some in omega (arith, k, length-drop {A = ℕ} (line_len v) []))
 len_kept (b ∷ []) v s h = elim (cases_Bool (eqb (line_end (b ∷ v)) 0)) [
   | inl t ↦
-      let n : line_len (b ∷ v) ≡ suc (line_len v) = len_cons b v ∙ ap (λ x. cond x (suc (line_len v)) 0) t in
+      let n : line_len (b ∷ v) ≡ suc (line_len v) = len_more b v t in
       absurd (let k = h.some in omega (arith, k, length-drop (line_len (b ∷ v)) (b ∷ []), n))
   | inr f ↦
-      let n : line_len (b ∷ v) ≡ 0 = len_cons b v ∙ ap (λ x. cond x (suc (line_len v)) 0) f in
+      let n : line_len (b ∷ v) ≡ 0 = len_zero b v f in
       let e = not_cr b (λ q. h.not_cr (ap (λ k. drop k (b ∷ [])) n ∙ q)) in
       let f2 : eqb (line_end (b ∷ s)) 0 ≡ false = ap (λ x. eqb x 0) (end_one b s e ∙ sym (end_one b v e)) ∙ f in
-      (len_cons b s ∙ ap (λ x. cond x (suc (line_len s)) 0) f2) ∙ sym n
+      len_zero b s f2 ∙ sym n
 ]
 len_kept (b ∷ c ∷ u) v s h = elim (cases_Bool (eqb (line_end (b ∷ c ∷ u ++ v)) 0)) [
   | inl t ↦
-      let n : line_len (b ∷ c ∷ u ++ v) ≡ suc (line_len (c ∷ u ++ v)) = len_cons b (c ∷ u ++ v) ∙ ap (λ x. cond x (suc (line_len (c ∷ u ++ v))) 0) t in
-      let t2 : eqb (line_end (b ∷ c ∷ u ++ s)) 0 ≡ true = ap (λ x. eqb x 0) (end_two b c u v s) ∙ t in
-      (len_cons b (c ∷ u ++ s) ∙ ap (λ x. cond x (suc (line_len (c ∷ u ++ s))) 0) t2) ∙ ap suc (len_kept (c ∷ u) v s (subst Holds (ap (λ k. drop k (b ∷ c ∷ u)) n) h)) ∙ sym n
+      let n : line_len (b ∷ c ∷ u ++ v) ≡ suc (line_len (c ∷ u ++ v)) = len_more b (c ∷ u ++ v) t in
+      let t2 : eqb (line_end (b ∷ c ∷ u ++ s)) 0 ≡ true = ap (λ x. eqb x 0) (end_two b c (u ++ s) (u ++ v)) ∙ t in
+      len_more b (c ∷ u ++ s) t2 ∙ ap suc (len_kept (c ∷ u) v s (subst Holds (ap (λ k. drop k (b ∷ c ∷ u)) n) h)) ∙ sym n
   | inr f ↦
-      let n : line_len (b ∷ c ∷ u ++ v) ≡ 0 = len_cons b (c ∷ u ++ v) ∙ ap (λ x. cond x (suc (line_len (c ∷ u ++ v))) 0) f in
-      let f2 : eqb (line_end (b ∷ c ∷ u ++ s)) 0 ≡ false = ap (λ x. eqb x 0) (end_two b c u v s) ∙ f in
-      (len_cons b (c ∷ u ++ s) ∙ ap (λ x. cond x (suc (line_len (c ∷ u ++ s))) 0) f2) ∙ sym n
+      let n : line_len (b ∷ c ∷ u ++ v) ≡ 0 = len_zero b (c ∷ u ++ v) f in
+      let f2 : eqb (line_end (b ∷ c ∷ u ++ s)) 0 ≡ false = ap (λ x. eqb x 0) (end_two b c (u ++ s) (u ++ v)) ∙ f in
+      len_zero b (c ∷ u ++ s) f2 ∙ sym n
 ]

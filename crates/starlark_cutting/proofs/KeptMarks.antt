@@ -16,7 +16,8 @@ use Rattle.starlark_lexer.specs.declared.token.FStringQuote.{FStringQuote}
 use Rattle.starlark_lexer.specs.declared.token.FStringQuote.TheVariants.{Single, Double, TripleSingle, TripleDouble}
 use Rattle.starlark_lexer.specs.Literals.{is_mark, is_format, quotes, opening_of, opened, prefix_of, quote_of, letters}
 use Rattle.starlark_lexer.specs.Classes.{meaning, is_word_byte, operators, operator_of, is_continuation}
-use Rattle.starlark_cutting.proofs.KeptNumbers.{no_row, row_not, none_passes}
+use Rattle.starlark_cutting.proofs.Clean.{some_not}
+use Rattle.starlark_cutting.proofs.KeptNumbers.{few_radices, no_row, row_not, none_passes}
 use Rattle.starlark_cutting.proofs.KeptLines.{Stops, past_none}
 
 -- ---- classes without quotes
@@ -40,13 +41,10 @@ radix_unmarked : (r b : ℕ) → r ≤ 16 → is_digit b r ≡ true → unmarked
 radix_unmarked r b le h = elim (cases_Bool (unmarked b)) [
   | inl c ↦ c
   | inr c ↦ elim (marked b c) [
-    | inl e ↦ absurd (false≢true (sym (none r le) ∙ ap (λ x. is_digit x r) (sym e) ∙ h))
-    | inr e ↦ absurd (false≢true (sym (none r le) ∙ ap (λ x. is_digit x r) (sym e) ∙ h))
+    | inl e ↦ absurd (false≢true (sym (few_radices r le) ∙ ap (λ x. is_digit x r) (sym e) ∙ h))
+    | inr e ↦ absurd (false≢true (sym (few_radices r le) ∙ ap (λ x. is_digit x r) (sym e) ∙ h))
   ]
 ]
-  where
-    none : (r : ℕ) → r ≤ 16 → ltb 36 r ≡ false
-    none r le = grind (arith, nat_tests)
 
 high_unmarked : (b : ℕ) → ltb b 128 ≡ false → unmarked b ≡ true
 high_unmarked b h = grind (arith, nat_tests)
@@ -74,9 +72,6 @@ pub record IsOpened (w : List ℕ) (g : Form) : Type 0 where
   pub some : is_format g.sort ≡ true → 0 < n
 
 module _ {A : Type 0} where
-  pub some_not : (x : A) → None ≡ Some x → ⊥
-  some_not x e = cc
-
   some_same : (x y : A) → Some x ≡ Some y → x ≡ y
   some_same x y e = cc
 

@@ -1,7 +1,7 @@
 -- A step within what is kept of a text, and what it needs of the bytes behind it.
 use Rattle.std.proofs.Common.{◌≡◌, ◌<◌, ◌≤◌, ◌⊎◌, ℕ, ◌+◌, true, false, List, [], ◌∷◌, ◌++◌, length, take, drop, refl, ap, sym, ◌∙◌, arith, inl, inr, subst, length-drop}
 use Rattle.std.proofs.lemmas.Bool.{false≢true}
-use Rattle.std.proofs.lemmas.List.{take-append-le, drop-append-le}
+use Rattle.std.proofs.lemmas.List.{drop-append-le}
 use Rattle.starlark_lexer.specs.declared.literal.Form.{Form}
 use Rattle.starlark_lexer.specs.declared.literal.Ending.{Ending}
 use Rattle.starlark_lexer.specs.Items.{Item}
@@ -10,7 +10,7 @@ use Rattle.starlark_lexer.specs.Depth.{Bracket}
 use Rattle.starlark_lexer.specs.Classes.{Meaning, is_blank, leading, blanks, escaped, closes_field, IsLexeme}
 use Rattle.starlark_lexer.specs.Lex.{Mode, Past, Step, on, is_inside, IsPlain, IsMeasured}
 use Rattle.starlark_lexer.specs.Lex as rules
-use Rattle.starlark_cutting.proofs.KeptBodies.{run_same}
+use Rattle.starlark_cutting.proofs.KeptBodies.{take_kept, run_same}
 use Rattle.starlark_cutting.proofs.KeptReads.{Fits}
 use Rattle.starlark_cutting.proofs.KeptLines.{Barred, Accepts, first_not, unescaped, closes_kept, Holds, holds_drop}
 
@@ -94,9 +94,7 @@ measured_kept p rest u v o m e lt =
     record { fresh = m.fresh; first = m.first; more = s.0 ++ o; stands = s.1.1.1; not_line = m.not_line; not_remark = m.not_remark }
 
 pub blanks_kept : (rest u v o : List ℕ) → rest ≡ u ++ v → leading rest < length u → blanks (u ++ o) ≡ blanks rest
-blanks_kept rest u v o e lt =
-    let le : leading rest ≤ length u = omega (arith, lt) in
-    ap (λ k. take k (u ++ o)) (lead_kept rest u v o e lt) ∙ take-append-le (leading rest) u o le ∙ sym (take-append-le (leading rest) u v le) ∙ ap (take (leading rest)) (sym e)
+blanks_kept rest u v o e lt = ap (λ k. take k (u ++ o)) (lead_kept rest u v o e lt) ∙ take_kept rest u v o (leading rest) e (omega (arith, lt))
 
 -- ---- lexemes
 
@@ -104,7 +102,7 @@ no_escape : (u v o : List ℕ) (n : ℕ) (m : Meaning) → IsLexeme (u ++ v) n m
 no_escape [] v o n m l a h = absurd (omega (arith, h))
 no_escape (b ∷ bs) v o n m l a h = unescaped b (bs ++ o) (first_not b (bs ++ v) n m l a)
 
-field_code : (b : ℕ) (g : Form) (bs : List Bracket) → rules.field b g bs ≡ rules.code → ⊥
+pub field_code : (b : ℕ) (g : Form) (bs : List Bracket) → rules.field b g bs ≡ rules.code → ⊥
 field_code b g bs e = cc
 
 pub plain_kept : (p : Past) (rest u v o : List ℕ) (n : ℕ) (m : Meaning) → IsPlain p rest → IsLexeme rest n m → Accepts m → rest ≡ u ++ v → 0 < length u → (1 < length u) ⊎ (p.mode ≡ rules.code) → IsPlain p (u ++ o)

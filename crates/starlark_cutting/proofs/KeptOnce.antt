@@ -3,7 +3,7 @@ use Rattle.std.proofs.Common.{◌≡◌, ◌<◌, ◌≤◌, ◌⊎◌, ℕ, ◌
 use Rattle.std.specs.Prelude.{Some}
 use Rattle.std.proofs.lemmas.Bool.{cases_Bool, false≢true}
 use Rattle.std.proofs.lemmas.Bool.Decides.{nat_tests}
-use Rattle.std.proofs.lemmas.List.{take-append-le, take_all}
+use Rattle.std.proofs.Math.Seq.{take-append_seam}
 use Rattle.starlark_lexer.specs.declared.literal.Form.{Form}
 use Rattle.starlark_lexer.specs.declared.literal.Ending.TheVariants as ending
 use Rattle.starlark_lexer.specs.declared.token.LexemeError.TheVariants.{InvalidInput}
@@ -12,16 +12,18 @@ use Rattle.starlark_lexer.specs.Literals.{body, quotes, value, is_format, openin
 use Rattle.starlark_lexer.specs.Classes.{meaning, token, refused, opens, closes_field, operator_of, IsLexeme}
 use Rattle.starlark_lexer.specs.Lex.{Mode, Past, Move, Step, on, over, mode_behind, is_inside, below, gives, turns, literal_lexeme, IsPlain}
 use Rattle.starlark_lexer.specs.Lex as rules
+use Rattle.starlark_lexer.proofs.Cuts.{quotes_some}
 use Rattle.starlark_cutting.specs.Opened.{is_text}
+use Rattle.starlark_cutting.proofs.KeptBodies.{take_kept}
 use Rattle.starlark_cutting.proofs.Clean.{clean}
 use Rattle.starlark_cutting.proofs.KeptLines.{Stops}
 use Rattle.starlark_cutting.proofs.KeptMoves.{plain_kept}
 use Rattle.starlark_cutting.proofs.KeptReads.{extent}
-use Rattle.starlark_cutting.proofs.KeptFinal.{one_inner, behind_all, lexeme_cr, body_cr, quotes_some, dedents_not}
+use Rattle.starlark_cutting.proofs.KeptFinal.{one_inner, behind_all, lexeme_cr, body_cr, dedents_not}
 use Rattle.starlark_cutting.proofs.KeptMarks.{Barrier, barrier_stops, opening_barrier, brace_barrier, marks_of, is_opened}
 use Rattle.starlark_cutting.proofs.KeptTails.{field_front, field_brace, stops_brace}
 use Rattle.starlark_cutting.proofs.KeptOrdinary.{meaning_opening}
-use Rattle.starlark_cutting.proofs.KeptOpen.{Bodies, none_inside, behind_same, Stands, lexeme_on, literal_on, leaves_on, more_text, text_value}
+use Rattle.starlark_cutting.proofs.KeptOpen.{Bodies, none_inside, behind_same, Stands, lexeme_on, literal_on, leaves_on, more_text}
 use Rattle.starlark_cutting.proofs.KeptBraces.{field_barrier, text_field}
 
 -- the last of them is a piece of text
@@ -98,9 +100,6 @@ abbrev pub Last_on : Past → List ℕ → Move → Type 0
 Last_on p rest (on xs q more) = (u v o : List ℕ) → rest ≡ u ++ v → q.place ≡ p.place + length u → one_inner xs ≡ true → Low p → Follows (last_text xs) q.mode o → SteppedOn p xs q u v o
 Last_on p rest (over l) = Unit {0}
 
-all_of : (u v : List ℕ) (n : ℕ) → n ≡ length u → take n (u ++ v) ≡ u
-all_of u v n e = take-append-le n u v (omega (arith, e)) ∙ take_all n u (omega (arith, e))
-
 ends_at : (g : Form) (rest u v : List ℕ) (k : ℕ) → rest ≡ u ++ v → k ≡ length u → (body g 0 rest ≡ ending.Closed k) ⊎ (body g 0 rest ≡ ending.Field k) → (body g 0 (u ++ v) ≡ ending.Closed (length u)) ⊎ (body g 0 (u ++ v) ≡ ending.Field (length u))
 ends_at g rest u v k is all (inl e) = inl (ap (body g 0) (sym is) ∙ e ∙ ap ending.Closed all)
 ends_at g rest u v k is all (inr e) = inr (ap (body g 0) (sym is) ∙ e ∙ ap ending.Field all)
@@ -165,7 +164,7 @@ last_on (rules.misspelt p rest n g k m v l t e) = tt
 last_on (rules.enters p rest n g v l t) = λ u w o is at i low h.
     let all : n ≡ length u = omega (arith, at) in
     let here = subst (λ r. IsLexeme r n (opens g)) is l in
-    let op : opening_of u ≡ Some g = meaning_opening u g (ap meaning (sym (all_of u w n all)) ∙ here.means) in
+    let op : opening_of u ≡ Some g = meaning_opening u g (ap meaning (sym (ap (λ k. take k (u ++ w)) all ∙ take-append_seam u w)) ∙ here.means) in
     let a = is_opened u g op in
     let two : 1 < length u = omega (arith, a.len, a.some t, quotes_some g.quote) in
     let bars : Barrier u o = subst (Barrier u) (sym h.1.0) (opening_barrier u g h.0 op t h.1.1) in
@@ -189,7 +188,7 @@ last_on (rules.texts p b g rest k f c some e) = λ u w o is at i low h.
         bars = subst (Barrier u) (sym r.1.0) (field_barrier u r.0 (omega (arith, all, some)));
       };
       step = behind_all p _ _ u o k all
-          (subst (λ y. Step p (u ++ o) (gives p 0 (fstring_text (value g y)) k k false (u ++ o))) (text_value g rest u w o k is (omega (arith, all))) (rules.texts p b g (u ++ o) k f c some (inr there)));
+          (subst (λ y. Step p (u ++ o) (gives p 0 (fstring_text (value g y)) k k false (u ++ o))) (take_kept rest u w o k is (omega (arith, all))) (rules.texts p b g (u ++ o) k f c some (inr there)));
       fresh = refl;
     }
 last_on (rules.leaves p b g rest f c e) = λ u w o is at i low h.

@@ -1,23 +1,24 @@
 -- A step within what is kept of a text is one there with other bytes behind it, also in an f-string.
 use Rattle.std.proofs.Common.{◌≡◌, ◌<◌, ◌≤◌, ◌⊎◌, ℕ, ◌+◌, true, false, List, [], ◌∷◌, ◌++◌, length, take, drop, refl, ap, sym, ◌∙◌, arith, zero, suc, inl, inr, eqb, subst, length-append, length-drop}
 use Rattle.std.specs.Prelude.{count_by}
-use Rattle.std.proofs.lemmas.Bool.{cases_lt, false≢true}
-use Rattle.std.proofs.lemmas.List.{take-append-le, drop-append-le}
+use Rattle.std.proofs.lemmas.Bool.{false≢true}
+use Rattle.std.proofs.lemmas.List.{drop-append-le}
 use Rattle.starlark_lexer.specs.declared.literal.Form.{Form}
 use Rattle.starlark_lexer.specs.declared.literal.Ending.{Ending}
 use Rattle.starlark_lexer.specs.declared.literal.Ending.TheVariants as ending
 use Rattle.starlark_lexer.specs.Items.{Lexeme, newline, comment, indent, fstring_text, fstring_expr_end, fstring_bang, fstring_end, Item, item, dedents}
 use Rattle.starlark_lexer.specs.Literals.{body, quotes, value, is_format}
 use Rattle.starlark_lexer.specs.Widths.{IsOpen, IsDeeper, Closes}
-use Rattle.starlark_lexer.specs.Classes.{Meaning, meaning, closes_field, token, opens, leading, has_tab, width, line_len, escaped, IsLexeme}
+use Rattle.starlark_lexer.specs.Classes.{Meaning, closes_field, token, opens, leading, has_tab, width, line_len, escaped, IsLexeme}
 use Rattle.starlark_lexer.specs.Lex.{Mode, Past, Move, Step, on, over, is_inside, recorded, mode_behind, below, moved, gives, deepened, fitted, turns, literal_lexeme}
 use Rattle.starlark_lexer.specs.Lex as rules
 use Rattle.starlark_lexer.proofs.JoinedBodies.{Final}
-use Rattle.starlark_cutting.proofs.KeptReads.{Fits, body_same, extent, at_once, body_once}
-use Rattle.starlark_cutting.proofs.KeptLines.{Holds, closes_kept, escaped_kept}
+use Rattle.starlark_lexer.proofs.Cuts.{quotes_some}
+use Rattle.starlark_cutting.proofs.KeptBodies.{take_kept}
+use Rattle.starlark_cutting.proofs.KeptReads.{body_same, extent, at_once, body_once}
+use Rattle.starlark_cutting.proofs.KeptLines.{Holds, lexeme_longest, closes_kept, escaped_kept}
 use Rattle.starlark_cutting.proofs.KeptMoves.{Fresh, first_kept, lead_kept, measured_kept, blanks_kept, plain_kept}
-use Rattle.starlark_cutting.proofs.KeptSteps.{blank_kept, remark_len, remark_kept, inline_kept}
-use Rattle.starlark_cutting.proofs.KeptFinal.{quotes_some}
+use Rattle.starlark_cutting.proofs.KeptSteps.{blank_kept, remark_len, remark_kept, inline_kept, literal_step}
 use Rattle.starlark_cutting.proofs.KeptMarks.{Barrier, barrier_drop}
 use Rattle.starlark_cutting.proofs.KeptTails.{text_closed, text_field}
 
@@ -80,31 +81,14 @@ behind_same (rules.field b g bs) x e = refl
 -- ---- lexemes
 
 pub lexeme_on : (u v o : List ℕ) (n : ℕ) (m : Meaning) → IsLexeme (u ++ v) n m → n ≤ length u → Barrier u o → IsLexeme (u ++ o) n m
-lexeme_on u v o n m h le bars =
-    let same : (k : ℕ) → k ≤ length u → take k (u ++ o) ≡ take k (u ++ v) = λ k l. take-append-le k u o l ∙ sym (take-append-le k u v l) in
-    record {
-      nonempty = h.nonempty;
-      within = omega (arith, le, length-append u o);
-      means = ap meaning (same n le) ∙ h.means;
-      longest = λ k more fits. elim (cases_lt (length u) k) [
-        | inr l ↦ ap meaning (same k l) ∙ h.longest k more (omega (arith, l, length-append u v))
-        | inl far ↦ bars [] k far fits
-      ];
-    }
+lexeme_on u v o n m h le bars = lexeme_longest u v o n m h le (bars [])
 
 pub literal_on : (p : Past) (rest u w o : List ℕ) (n : ℕ) (g : Form) (k : ℕ) → rules.IsPlain p rest → IsLexeme rest n (opens g) → is_format g.sort ≡ false → body g 0 (drop n rest) ≡ ending.Closed k
     → rest ≡ u ++ w → n + k + quotes g.quote ≤ length u → Barrier u o → 1 < length u
     → Step p (u ++ o) (gives p 0 (literal_lexeme g.sort (value g (take k (drop n rest)))) (n + k + quotes g.quote) (n + k + quotes g.quote) false (u ++ o))
 literal_on p rest u w o n g k v l t e is le bars two =
-    let short : n ≤ length u = omega (arith, le) in
-    let cut : drop n rest ≡ drop n u ++ w = ap (drop n) is ∙ drop-append-le n u w short in
-    let cut2 : drop n (u ++ o) ≡ drop n u ++ o = drop-append-le n u o short in
-    let room : Fits g 0 (drop n u) (ending.Closed k) = omega (arith, le, length-drop n u) in
-    let whole : body g 0 (drop n (u ++ o)) ≡ ending.Closed k = ap (body g 0) cut2 ∙ body_same g (drop n u) w o (ending.Closed k) room (ap (body g 0) (sym cut) ∙ e) in
-    let few : k ≤ length (drop n u) = omega (arith, room) in
-    let same : take k (drop n (u ++ o)) ≡ take k (drop n rest) = ap (take k) cut2 ∙ take-append-le k (drop n u) o few ∙ sym (take-append-le k (drop n u) w few) ∙ ap (take k) (sym cut) in
-    subst (λ x. Step p (u ++ o) (gives p 0 (literal_lexeme g.sort (value g x)) (n + k + quotes g.quote) (n + k + quotes g.quote) false (u ++ o))) same
-    (rules.literal p (u ++ o) n g k (plain_kept p rest u w o n (opens g) v l tt is (omega (arith, le, l.nonempty)) (inl two)) (lexeme_on u w o n (opens g) (subst (λ r. IsLexeme r n (opens g)) is l) short bars) t whole)
+    let plain = plain_kept p rest u w o n (opens g) v l tt is (omega (arith, le, l.nonempty)) (inl two) in
+    literal_step p rest u w o n g k plain (lexeme_on u w o n (opens g) (subst (λ r. IsLexeme r n (opens g)) is l) (omega (arith, le)) bars) t e is le
 
 -- ---- texts of f-strings
 
@@ -127,9 +111,6 @@ at_end p x b g u v o k e c final is le h at =
 
 pub more_text : (p : Past) (b : ℕ) (g : Form) (u v o : List ℕ) (k : ℕ) → p.mode ≡ rules.inside b g → 0 < k → extent (body g 0 (u ++ v)) ≡ k → Bodies p.mode u v o
 more_text p b g u v o k c some e = subst (λ m. Bodies m u v o) (sym c) (inr (omega (arith, some, e)))
-
-pub text_value : (g : Form) (rest u v o : List ℕ) (k : ℕ) → rest ≡ u ++ v → k ≤ length u → take k (u ++ o) ≡ take k rest
-text_value g rest u v o k is le = take-append-le k u o le ∙ sym (take-append-le k u v le) ∙ ap (take k) (sym is)
 
 pub leaves_on : (p : Past) (b : ℕ) (g : Form) (rest u v o : List ℕ) → p.fresh ≡ false → p.mode ≡ rules.inside b g → body g 0 rest ≡ ending.Closed 0 → rest ≡ u ++ v → quotes g.quote ≤ length u
     → Bodies p.mode u v o × Step p (u ++ o) (turns p fstring_end (quotes g.quote) (below p.outer) (drop 1 p.outer) (u ++ o))
@@ -247,7 +228,7 @@ goes_on (rules.texts p b g rest k f c some (inl e)) h =
     let here : body g 0 (u ++ v) ≡ ending.Closed k = ap (body g 0) (sym is) ∙ e in
     let there : body g 0 (u ++ o) ≡ ending.Closed k = text_closed g k u v o (left_on _ k u v o at) here (at_end p _ b g u v o k (ending.Closed k) c tt refl le here at.body) in (
       more_text p b g u v o k c some (ap extent here),
-      subst (λ w. Step p (u ++ o) (gives p 0 (fstring_text (value g w)) k k false (u ++ o))) (text_value g rest u v o k is le) (rules.texts p b g (u ++ o) k f c some (inl there)),
+      subst (λ w. Step p (u ++ o) (gives p 0 (fstring_text (value g w)) k k false (u ++ o))) (take_kept rest u v o k is le) (rules.texts p b g (u ++ o) k f c some (inl there)),
     ))
 goes_on (rules.texts p b g rest k f c some (inr e)) h =
     kept_on p rest _ _ k refl (inl some)
@@ -255,7 +236,7 @@ goes_on (rules.texts p b g rest k f c some (inr e)) h =
     let here : body g 0 (u ++ v) ≡ ending.Field k = ap (body g 0) (sym is) ∙ e in
     let there : body g 0 (u ++ o) ≡ ending.Field k = text_field g k u v o (left_on _ k u v o at) here (at_end p _ b g u v o k (ending.Field k) c tt refl le here at.body) in (
       more_text p b g u v o k c some (ap extent here),
-      subst (λ w. Step p (u ++ o) (gives p 0 (fstring_text (value g w)) k k false (u ++ o))) (text_value g rest u v o k is le) (rules.texts p b g (u ++ o) k f c some (inr there)),
+      subst (λ w. Step p (u ++ o) (gives p 0 (fstring_text (value g w)) k k false (u ++ o))) (take_kept rest u v o k is le) (rules.texts p b g (u ++ o) k f c some (inr there)),
     ))
 goes_on (rules.leaves p b g rest f c e) h = kept_on p rest _ _ (quotes g.quote) refl (inl (quotes_some g.quote)) (λ u v o is le at bars. leaves_on p b g rest u v o f c e is le)
 goes_on (rules.opens_field p b g rest f c e) h =

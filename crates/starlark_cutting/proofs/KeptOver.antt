@@ -1,7 +1,7 @@
 -- What stands at a text's end: a line end of no width, and the Dedents behind it.
 use Rattle.std.proofs.Common.{◌≡◌, ◌⊎◌, ℕ, ◌+◌, cond, List, [], ◌∷◌, ◌++◌, length, refl, ap, sym, ◌∙◌, arith, zero, suc, inl, inr, append_assoc, length-append}
 use Rattle.std.specs.Prelude.{count_by}
-use Rattle.std.proofs.lemmas.List.{append-nil}
+use Rattle.std.proofs.lemmas.List.{append-nil, nil_from_length}
 use Rattle.std.proofs.lemmas.List.Sums.{sum_by-append}
 use Rattle.starlark_lexer.specs.Items.{Item, item, Lexed, nothing, newline, dedent, dedents, with_items}
 use Rattle.starlark_lexer.specs.Widths.{Closes}
@@ -16,7 +16,6 @@ use Rattle.starlark_lexer.proofs.JoinedOn.{count_cons}
 use Rattle.starlark_cutting.proofs.KeptMoves.{Fresh}
 use Rattle.starlark_cutting.proofs.KeptTracks.{Stacked, tracks, dedents_indents, dedents_count}
 use Rattle.starlark_cutting.proofs.KeptReach.{Reach, stays, more, Found, find, far_reach}
-use Rattle.starlark_cutting.proofs.KeptFresh.{no_bytes}
 use Rattle.starlark_cutting.proofs.KeptGiven.{given}
 use Rattle.starlark_cutting.proofs.KeptLayouts.{line_given, dedent_given, measured_some}
 
@@ -128,7 +127,7 @@ module _ (u v : List ℕ) (before : List Item) (z : Item) (behind : List Item) (
       let last = f.first ++ z ∷ [] in
       let parts : before ++ z ∷ [] ≡ f.front ++ last = ap (λ y. y ++ z ∷ []) f.is ∙ append_assoc f.front f.first (z ∷ []) in
       record {
-        whole = no_bytes v (omega (arith, far_place f, here));
+        whole = nil_from_length v (omega (arith, far_place f, here));
         no_fault = sym same ∙ ap (λ m. m.fault) o.is;
         count = r.others;
         layout = omega (

@@ -1,36 +1,29 @@
 -- A lexeme that is put behind a text with a blank before it, and the line feed that ends the text.
-use Rattle.std.proofs.Common.{◌≡◌, ◌<◌, ℕ, ◌+◌, Bool, cond, true, false, List, [], ◌∷◌, ◌++◌, length, take, refl, ap, sym, ◌∙◌, arith, suc, inl, length-append}
+use Rattle.std.proofs.Common.{◌≡◌, ◌<◌, ℕ, ◌+◌, Bool, cond, true, false, List, [], ◌∷◌, ◌++◌, length, refl, ap, sym, ◌∙◌, arith, inl, length-append}
 use Rattle.std.specs.Prelude.{Some, count_by}
-use Rattle.starlark_lexer.specs.declared.literal.Form.{Form}
+use Rattle.std.proofs.Math.Seq.{take-append_seam}
 use Rattle.starlark_lexer.specs.Items.{Lexeme, Item, item, nothing, newline, dedents, with_items}
-use Rattle.starlark_lexer.specs.Depth.{Bracket}
 use Rattle.starlark_lexer.specs.Widths.{Closes}
 use Rattle.starlark_lexer.specs.Classes.{meaning, token, IsLexeme}
 use Rattle.starlark_lexer.specs.Lex.{Mode, Past, Lex, IsPlain, IsBalanced, recorded, mode_behind, is_inside, goes_on, is_over}
 use Rattle.starlark_lexer.specs.Lex as rules
 use Rattle.starlark_lexer.proofs.JoinedOn.{count_cons}
 use Rattle.starlark_cutting.proofs.KeptLines.{Stops, past_none, first_not, unescaped}
+use Rattle.starlark_cutting.proofs.KeptMoves.{field_code}
 
 -- the text is the lexeme where a blank or a line feed stands behind it
 pub alone_lexeme : (w o : List ℕ) (x : Lexeme) → 0 < length w → meaning w ≡ Some (token x) → Stops o → IsLexeme (w ++ o) (length w) (token x)
 alone_lexeme w o x some means stop = record {
   nonempty = some;
   within = omega (arith, length-append w o);
-  means = ap meaning (take_all w o) ∙ means;
+  means = ap meaning (take-append_seam w o) ∙ means;
   longest = λ k more fits. past_none w o k (inl stop) more fits;
 }
-  where
-    take_all : (w o : List ℕ) → take (length w) (w ++ o) ≡ w
-    take_all [] o = refl
-    take_all (b ∷ w) o = let e : length (b ∷ w) ≡ suc (length w) = omega arith in ap (λ k. take k (b ∷ w ++ o)) e ∙ ap (λ t. b ∷ t) (take_all w o)
 
 -- among lexemes, within a line
 pub record Among (p : Past) : Type 0 where
   pub fresh : p.fresh ≡ false
   pub mode : p.mode ≡ rules.code
-
-field_code : (b : ℕ) (g : Form) (bs : List Bracket) → rules.code ≡ rules.field b g bs → ⊥
-field_code b g bs e = cc
 
 pub among_plain : (p : Past) (w o : List ℕ) (n : ℕ) (x : Lexeme) → Among p → 0 < length w → IsLexeme (w ++ o) n (token x) → IsPlain p (w ++ o)
 among_plain p [] o n x a some l = absurd (omega (arith, some))
@@ -38,7 +31,7 @@ among_plain p (b ∷ w) o n x a some l = record {
   within = a.fresh;
   outside = ap is_inside a.mode;
   no_escape = unescaped b (w ++ o) (first_not b (w ++ o) n (token x) l tt);
-  no_end = λ i g bs e d. absurd (field_code i g bs (sym a.mode ∙ e));
+  no_end = λ i g bs e d. absurd (field_code i g bs (sym e ∙ a.mode));
 }
 
 -- what stands behind it

@@ -1,7 +1,6 @@
 -- A body that ends within what is kept of a text ends there whatever stands behind; and where it ends, it ends at once.
 use Rattle.std.proofs.Common.{◌≡◌, ◌<◌, ◌≤◌, ℕ, ◌+◌, ◌-◌, Bool, true, false, cond, ◌&&◌, ◌||◌, List, [], ◌∷◌, ◌++◌, length, drop, refl, ap, sym, ◌∙◌, arith, zero, suc, inl, inr, eqb, subst}
-use Rattle.std.proofs.lemmas.Bool.{cases_Bool}
-use Rattle.std.proofs.lemmas.Bool.Decides.{nat_tests}
+use Rattle.std.proofs.lemmas.Bool.{cases_Bool, and_right, eqb-true}
 use Rattle.starlark_lexer.specs.declared.literal.Ending.{Ending}
 use Rattle.starlark_lexer.specs.declared.literal.Ending.TheVariants as ending
 use Rattle.starlark_lexer.specs.declared.literal.Form.{Form}
@@ -11,6 +10,7 @@ use Rattle.starlark_lexer.specs.declared.token.FStringQuote.{FStringQuote}
 use Rattle.starlark_lexer.specs.declared.token.FStringQuote.TheVariants.{Single, Double, TripleSingle, TripleDouble}
 use Rattle.starlark_lexer.specs.Literals.{quotes, mark, is_triple, is_format, begins, escape, raw_escape, goes_on, brace, piece, later, by_piece, read, body}
 use Rattle.starlark_lexer.proofs.JoinedBodies.{Final}
+use Rattle.starlark_lexer.proofs.Cuts.{quotes_some}
 use Rattle.starlark_cutting.proofs.KeptBodies.{Within, Some_bytes, pick, escape_some, raw_some, escape_same, raw_same, brace_same}
 
 -- A body that n bytes of are passed over ends within the bytes: with its quotes, or before a brace and another byte.
@@ -19,12 +19,6 @@ Fits f n xs (ending.Closed k) = n + k + quotes f.quote ≤ length xs
 Fits f n xs (ending.Field k) = n + k + 1 < length xs
 Fits f n xs (ending.Unfinished k) = ⊥
 Fits f n xs (ending.Escape k m) = ⊥
-
-quotes_some : (q : FStringQuote) → 0 < quotes q
-quotes_some Single = omega arith
-quotes_some Double = omega arith
-quotes_some TripleSingle = omega arith
-quotes_some TripleDouble = omega arith
 
 fits_nil : (f : Form) (n : ℕ) (e : Ending) → Fits f n [] e → ⊥
 fits_nil f n (ending.Closed k) h = omega (arith, h, quotes_some f.quote)
@@ -53,10 +47,6 @@ mark_none Double = (refl, refl, refl, refl)
 mark_none TripleSingle = (refl, refl, refl, refl)
 mark_none TripleDouble = (refl, refl, refl, refl)
 
-pub and_false : (t : Bool) → (t && false) ≡ false
-and_false true = refl
-and_false false = refl
-
 mark_self : (q : FStringQuote) → eqb (mark q) (mark q) ≡ true
 mark_self Single = refl
 mark_self Double = refl
@@ -68,7 +58,7 @@ unfolding piece
 mark_piece f bs =
     let n = mark_none f.quote in
     let z = mark_self f.quote in
-    let y : (is_format f.sort && (eqb (mark f.quote) 123 || eqb (mark f.quote) 125)) ≡ false = ap (λ t. is_format f.sort && t) n.3 ∙ and_false (is_format f.sort) in
+    let y : (is_format f.sort && (eqb (mark f.quote) 123 || eqb (mark f.quote) 125)) ≡ false = and_right (is_format f.sort) (eqb (mark f.quote) 123 || eqb (mark f.quote) 125) n.3 in
     (λ i. cond (z i && goes_on f.quote bs) Closing
     (cond (n.0 i) (Nothing 1)
     (cond (n.1 i) (cond (is_triple f.quote) (Same 1) Stop)
@@ -106,9 +96,6 @@ inner_some f b bs =
     (pick Some_bytes (eqb b 92) _ _ (pick Some_bytes f.raw _ _ (raw_some f.sort bs) (escape_some f.sort bs))
     (pick Some_bytes (is_format f.sort && (eqb b 123 || eqb b 125)) _ _ (pick Some_bytes (begins b bs) _ _ (omega arith) (pick Some_bytes (eqb b 123) _ _ tt (omega arith))) (omega arith))))
 
-pub equal_from : (a b : ℕ) → eqb a b ≡ true → a ≡ b
-equal_from a b h = grind (arith, nat_tests)
-
 marks_same : (q : FStringQuote) (xs v o : List ℕ) → quotes q ≤ 1 + length xs → goes_on q (xs ++ o) ≡ goes_on q (xs ++ v)
 marks_same Single xs v o h = refl
 marks_same Double xs v o h = refl
@@ -142,7 +129,7 @@ positive_mark false = omega arith
 
 piece_positive : (f : Form) (b : ℕ) (bs : List ℕ) → Positive (piece f (b ∷ bs))
 piece_positive f b bs = elim (cases_Bool (eqb b (mark f.quote))) [
-  | inl t ↦ subst Positive (sym (ap (λ c. piece f (c ∷ bs)) (equal_from b (mark f.quote) t) ∙ mark_piece f bs)) (positive_mark (goes_on f.quote bs))
+  | inl t ↦ subst Positive (sym (ap (λ c. piece f (c ∷ bs)) (eqb-true b (mark f.quote) t) ∙ mark_piece f bs)) (positive_mark (goes_on f.quote bs))
   | inr t ↦ subst Positive (sym (inner_piece f b bs t)) (positive (inner f b bs) (inner_some f b bs))
 ]
 
@@ -196,7 +183,7 @@ module _ (f : Form) (b : ℕ) (bs v o : List ℕ) (go : (n : ℕ) → Fits f n b
   piece_same : Fits f 0 (b ∷ bs) (by_first f (piece f (b ∷ bs ++ v)) b (bs ++ v)) → piece f (b ∷ bs ++ o) ≡ piece f (b ∷ bs ++ v)
   piece_same h = elim (cases_Bool (eqb b (mark f.quote))) [
     | inl t ↦
-        let at : (w : List ℕ) → piece f (b ∷ w) ≡ cond (goes_on f.quote w) Closing (Same 1) = λ w. ap (λ c. piece f (c ∷ w)) (equal_from b (mark f.quote) t) ∙ mark_piece f w in
+        let at : (w : List ℕ) → piece f (b ∷ w) ≡ cond (goes_on f.quote w) Closing (Same 1) = λ w. ap (λ c. piece f (c ∷ w)) (eqb-true b (mark f.quote) t) ∙ mark_piece f w in
         let room = mark_room (goes_on f.quote (bs ++ v)) (subst (λ p. Fits f 0 (b ∷ bs) (by_first f p b (bs ++ v))) (at (bs ++ v)) h) in
         at (bs ++ o) ∙ ap (λ t. cond t Closing (Same 1)) (marks_same f.quote bs v o room) ∙ sym (at (bs ++ v))
     | inr t ↦
@@ -230,13 +217,13 @@ at_once (ending.Field k) = ending.Field 0
 at_once (ending.Unfinished k) = ending.Unfinished k
 at_once (ending.Escape k m) = ending.Escape k m
 
-final_later : (n : ℕ) (e : Ending) → Final (later n e) → Final e
+pub final_later : (n : ℕ) (e : Ending) → Final (later n e) → Final e
 final_later n (ending.Closed k) h = tt
 final_later n (ending.Field k) h = tt
 final_later n (ending.Unfinished k) h = h
 final_later n (ending.Escape k m) h = h
 
-extent_later : (n : ℕ) (e : Ending) → extent (later n e) ≡ n + extent e
+pub extent_later : (n : ℕ) (e : Ending) → extent (later n e) ≡ n + extent e
 extent_later n (ending.Closed k) = refl
 extent_later n (ending.Field k) = refl
 extent_later n (ending.Unfinished k) = refl

@@ -1,6 +1,6 @@
 -- A comment whose line end is kept is the same where other bytes are put behind it.
 use Rattle.std.proofs.Common.{◌≡◌, ◌<◌, ◌≤◌, ℕ, ◌+◌, Bool, true, false, cond, ◌&&◌, List, [], ◌∷◌, ◌++◌, length, take, drop, refl, ap, sym, ◌∙◌, arith, suc, inl, inr, eqb, subst}
-use Rattle.std.proofs.lemmas.Bool.{cases_Bool, false≢true}
+use Rattle.std.proofs.lemmas.Bool.{cases_Bool, false≢true, eqb-true}
 use Rattle.std.proofs.lemmas.Bool.Decides.{nat_tests}
 use Rattle.starlark_lexer.specs.Classes.{begins_line, line_end, line_len}
 use Rattle.starlark_lexer.proofs.JoinedBodies.{Ended}
@@ -19,9 +19,10 @@ pub len_nil : line_len [] ≡ 0
 unfolding line_len
 len_nil = refl
 
-end_two : (b c : ℕ) (u v s : List ℕ) → line_end (b ∷ c ∷ u ++ s) ≡ line_end (b ∷ c ∷ u ++ v)
+-- two bytes tell a line end
+pub end_two : (b c : ℕ) (xs ys : List ℕ) → line_end (b ∷ c ∷ xs) ≡ line_end (b ∷ c ∷ ys)
 unfolding line_end
-end_two b c u v s = refl
+end_two b c xs ys = refl
 
 end_some : (n : ℕ) → eqb n 0 ≡ false → 0 < n
 end_some n h = grind (arith, nat_tests)
@@ -68,7 +69,7 @@ full_kept (b ∷ []) v s lt le = elim (cases_Bool (eqb (line_end (b ∷ v)) 0)) 
       )
 ]
 full_kept (b ∷ c ∷ u) v s lt le =
-    let e = end_two b c u v s in
+    let e = end_two b c (u ++ s) (u ++ v) in
     elim (cases_Bool (eqb (line_end (b ∷ c ∷ u ++ v)) 0)) [
       | inl t ↦
           let n = len_more b (c ∷ u ++ v) t in
@@ -85,6 +86,10 @@ full_kept (b ∷ c ∷ u) v s lt le =
 
 -- ---- its last byte is a line feed
 
+pub ended_some : (xs : List ℕ) → Ended xs → 0 < length xs
+ended_some [] h = absurd h
+ended_some (b ∷ bs) h = omega arith
+
 ended_cons : (b : ℕ) (bs : List ℕ) → Ended bs → Ended (b ∷ bs)
 ended_cons b [] h = absurd h
 ended_cons b (c ∷ bs) h = h
@@ -93,13 +98,10 @@ pub ended_behind : (xs ys : List ℕ) → Ended ys → Ended (xs ++ ys)
 ended_behind [] ys h = h
 ended_behind (x ∷ xs) ys h = ended_cons x (xs ++ ys) (ended_behind xs ys h)
 
-equal_from : (a b : ℕ) → eqb a b ≡ true → a ≡ b
-equal_from a b h = grind (arith, nat_tests)
-
 end_ended : (b : ℕ) (bs : List ℕ) → eqb (line_end (b ∷ bs)) 0 ≡ false → Ended (take (line_end (b ∷ bs)) (b ∷ bs))
 unfolding line_end
 end_ended b bs f = elim (cases_Bool (eqb b 10)) [
-  | inl t ↦ rw t (equal_from b 10 t)
+  | inl t ↦ rw t (eqb-true b 10 t)
   | inr n ↦ by_cr bs (rw n at f) n
 ]
   where

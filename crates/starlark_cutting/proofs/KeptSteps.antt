@@ -1,7 +1,7 @@
 -- A step within what is kept of a text is one there whatever stands behind that.
 use Rattle.std.proofs.Common.{◌≡◌, ◌<◌, ◌≤◌, ◌⊎◌, ℕ, ◌+◌, true, false, List, [], ◌∷◌, ◌++◌, length, take, drop, refl, ap, sym, ◌∙◌, arith, suc, inl, inr, eqb, subst, length-append, length-drop}
 use Rattle.std.specs.Prelude.{count_by}
-use Rattle.std.proofs.lemmas.List.{take-append-le, drop-append-le}
+use Rattle.std.proofs.lemmas.List.{drop-append-le}
 use Rattle.std.proofs.lemmas.List.Sums.{prefix_len-le-length}
 use Rattle.starlark_lexer.specs.declared.literal.Form.{Form}
 use Rattle.starlark_lexer.specs.declared.literal.Ending.{Ending}
@@ -13,6 +13,7 @@ use Rattle.starlark_lexer.specs.Classes.{closes_field, token, opens, is_blank, l
 use Rattle.starlark_lexer.specs.Lex.{Past, Move, Step, on, over, is_inside, recorded, mode_behind, below, moved, gives, deepened, fitted, turns, literal_lexeme}
 use Rattle.starlark_lexer.specs.Lex as rules
 use Rattle.starlark_lexer.proofs.Ordered.{inside, len_most, end_most, escaped_most}
+use Rattle.starlark_cutting.proofs.KeptBodies.{take_kept}
 use Rattle.starlark_cutting.proofs.KeptReads.{Fits, body_same, body_once}
 use Rattle.starlark_cutting.proofs.KeptLines.{Barred, Holds, lexeme_kept, closes_kept, escaped_kept, len_kept}
 use Rattle.starlark_cutting.proofs.KeptRemarks.{full_kept}
@@ -45,7 +46,7 @@ remark_kept p rest more u v o f e is le lt =
     let en : line_len (w ++ o) ≡ n = r.0 ∙ sym (ap line_len same) in
     let ez : line_end (drop (line_len (w ++ o)) (w ++ o)) ≡ line_end (drop n more) = ap (λ k. line_end (drop k (w ++ o))) r.0 ∙ r.1 ∙ sym (ap (λ m. line_end (drop (line_len m) m)) same) in
     let fits : n ≤ length w = omega (arith, le, len) in
-    let et : take (line_len (w ++ o)) (w ++ o) ≡ take n more = ap (λ k. take k (w ++ o)) en ∙ take-append-le n w o fits ∙ sym (take-append-le n w v fits) ∙ ap (take n) (sym same) in
+    let et : take (line_len (w ++ o)) (w ++ o) ≡ take n more = ap (λ k. take k (w ++ o)) en ∙ take_kept more w v o n same fits in
     let el = lead_kept rest u v o is below in
     subst (Step p (u ++ o)) (λ i. gives p (el i) (comment (et i)) (1 + en i) (el i + (1 + en i) + ez i) true (u ++ o)) (rules.remark_line p (u ++ o) (w ++ o) f s.1.1.1)
 
@@ -56,7 +57,7 @@ pub inline_kept : (p : Past) (rest w v o : List ℕ) → p.fresh ≡ false → i
 inline_kept p rest w v o f c is le h =
     let n = line_len rest in
     let en : line_len (w ++ o) ≡ n = len_kept w v o (subst (λ r. Holds (drop (line_len r) w)) is h) ∙ ap line_len (sym is) in
-    let et : take (line_len (w ++ o)) (w ++ o) ≡ take n rest = ap (λ k. take k (w ++ o)) en ∙ take-append-le n w o le ∙ sym (take-append-le n w v le) ∙ ap (take n) (sym is) in
+    let et : take (line_len (w ++ o)) (w ++ o) ≡ take n rest = ap (λ k. take k (w ++ o)) en ∙ take_kept rest w v o n is le in
     subst (Step p (35 ∷ w ++ o)) (λ i. gives p 0 (comment (et i)) (1 + en i) (1 + en i) false (35 ∷ w ++ o)) (rules.remark p (w ++ o) f c)
 
 -- ---- texts of f-strings
@@ -79,7 +80,7 @@ text_kept : (p : Past) (b : ℕ) (g : Form) (rest u v o : List ℕ) (k : ℕ) (e
     → BodyFits p.mode u v × Step p (u ++ o) (gives p 0 (fstring_text (value g (take k rest))) k k false (u ++ o))
 text_kept p b g rest u v o k e f c some is le has fits ends =
     let here : body g 0 (u ++ v) ≡ e = ap (body g 0) (sym is) ∙ has in
-    let cut : take k (u ++ o) ≡ take k rest = take-append-le k u o le ∙ sym (take-append-le k u v le) ∙ ap (take k) (sym is) in (
+    let cut : take k (u ++ o) ≡ take k rest = take_kept rest u v o k is le in (
       subst (λ m. BodyFits m u v) (sym c) (e, (here, fits)),
       subst (λ w. Step p (u ++ o) (gives p 0 (fstring_text (value g w)) k k false (u ++ o))) cut
           (rules.texts p b g (u ++ o) k f c some (ends (u ++ o) (body_same g u v o e fits here))),
@@ -98,19 +99,26 @@ leaves_kept p b g rest u v o f c e is le =
 
 -- ---- literals
 
-pub literal_kept : (p : Past) (rest u w o : List ℕ) (n : ℕ) (g : Form) (k : ℕ) → rules.IsPlain p rest → IsLexeme rest n (opens g) → is_format g.sort ≡ false → body g 0 (drop n rest) ≡ ending.Closed k
-    → rest ≡ u ++ w → n + k + quotes g.quote ≤ length u → Barred u o → (1 < length u) ⊎ (p.mode ≡ rules.code)
+-- a literal that is plain and opens where o stands behind what is kept
+pub literal_step : (p : Past) (rest u w o : List ℕ) (n : ℕ) (g : Form) (k : ℕ) → rules.IsPlain p (u ++ o) → IsLexeme (u ++ o) n (opens g) → is_format g.sort ≡ false → body g 0 (drop n rest) ≡ ending.Closed k
+    → rest ≡ u ++ w → n + k + quotes g.quote ≤ length u
     → Step p (u ++ o) (gives p 0 (literal_lexeme g.sort (value g (take k (drop n rest)))) (n + k + quotes g.quote) (n + k + quotes g.quote) false (u ++ o))
-literal_kept p rest u w o n g k v l t e is le bar two =
+literal_step p rest u w o n g k v l t e is le =
     let short : n ≤ length u = omega (arith, le) in
     let cut : drop n rest ≡ drop n u ++ w = ap (drop n) is ∙ drop-append-le n u w short in
     let cut2 : drop n (u ++ o) ≡ drop n u ++ o = drop-append-le n u o short in
     let room : Fits g 0 (drop n u) (ending.Closed k) = omega (arith, le, length-drop n u) in
     let whole : body g 0 (drop n (u ++ o)) ≡ ending.Closed k = ap (body g 0) cut2 ∙ body_same g (drop n u) w o (ending.Closed k) room (ap (body g 0) (sym cut) ∙ e) in
     let few : k ≤ length (drop n u) = omega (arith, room) in
-    let same : take k (drop n (u ++ o)) ≡ take k (drop n rest) = ap (take k) cut2 ∙ take-append-le k (drop n u) o few ∙ sym (take-append-le k (drop n u) w few) ∙ ap (take k) (sym cut) in
-    subst (λ x. Step p (u ++ o) (gives p 0 (literal_lexeme g.sort (value g x)) (n + k + quotes g.quote) (n + k + quotes g.quote) false (u ++ o))) same
-    (rules.literal p (u ++ o) n g k (plain_kept p rest u w o n (opens g) v l tt is (omega (arith, le, l.nonempty)) two) (lexeme_kept u w o n (opens g) (subst (λ r. IsLexeme r n (opens g)) is l) short bar) t whole)
+    let same : take k (drop n (u ++ o)) ≡ take k (drop n rest) = ap (take k) cut2 ∙ take_kept (drop n rest) (drop n u) w o k cut few in
+    subst (λ x. Step p (u ++ o) (gives p 0 (literal_lexeme g.sort (value g x)) (n + k + quotes g.quote) (n + k + quotes g.quote) false (u ++ o))) same (rules.literal p (u ++ o) n g k v l t whole)
+
+pub literal_kept : (p : Past) (rest u w o : List ℕ) (n : ℕ) (g : Form) (k : ℕ) → rules.IsPlain p rest → IsLexeme rest n (opens g) → is_format g.sort ≡ false → body g 0 (drop n rest) ≡ ending.Closed k
+    → rest ≡ u ++ w → n + k + quotes g.quote ≤ length u → Barred u o → (1 < length u) ⊎ (p.mode ≡ rules.code)
+    → Step p (u ++ o) (gives p 0 (literal_lexeme g.sort (value g (take k (drop n rest)))) (n + k + quotes g.quote) (n + k + quotes g.quote) false (u ++ o))
+literal_kept p rest u w o n g k v l t e is le bar two =
+    let plain = plain_kept p rest u w o n (opens g) v l tt is (omega (arith, le, l.nonempty)) two in
+    literal_step p rest u w o n g k plain (lexeme_kept u w o n (opens g) (subst (λ r. IsLexeme r n (opens g)) is l) (omega (arith, le)) bar) t e is le
 
 -- ---- step by step
 

@@ -1,6 +1,6 @@
 -- The last step within a line behind which only blanks are passed over up to the text's end.
 use Rattle.std.proofs.Common.{◌≡◌, ◌<◌, ◌≤◌, ◌⊎◌, ℕ, ◌+◌, Bool, true, false, cond, ◌&&◌, List, [], ◌∷◌, ◌++◌, length, take, drop, refl, ap, sym, ◌∙◌, arith, zero, suc, inl, inr, eqb, ltb, subst, append_assoc, length-drop}
-use Rattle.std.proofs.lemmas.Bool.{false≢true}
+use Rattle.std.proofs.lemmas.Bool.{false≢true, and_parts, and_from}
 use Rattle.std.proofs.lemmas.Bool.Decides.{nat_tests}
 use Rattle.std.proofs.lemmas.List.{append-nil, take-append-drop, length-take-le, drop-append-le, drop_all}
 use Rattle.starlark_lexer.specs.declared.literal.Ending.TheVariants as ending
@@ -12,11 +12,11 @@ use Rattle.starlark_lexer.specs.Lex as rules
 use Rattle.starlark_lexer.proofs.Ordered.{inside, escaped_most}
 use Rattle.starlark_cutting.specs.Cutting.{tokens_of}
 use Rattle.starlark_cutting.proofs.KeptLines.{Stops, escaped_kept}
-use Rattle.starlark_cutting.proofs.KeptMoves.{At, not_inside}
+use Rattle.starlark_cutting.proofs.KeptMoves.{At, not_inside, field_code}
 use Rattle.starlark_cutting.proofs.KeptPuts.{counted}
 use Rattle.starlark_cutting.proofs.KeptReach.{Reach, stays, more}
-use Rattle.starlark_cutting.proofs.KeptFinal.{Ends, lexeme_ends, literal_ends, leaves_ends, code_behind, inside_code, field_code}
-use Rattle.starlark_cutting.proofs.KeptFeeds.{all_blank, and_yes, joint, none_behind, all_line}
+use Rattle.starlark_cutting.proofs.KeptFinal.{Ends, lexeme_ends, literal_ends, leaves_ends, code_behind, inside_code}
+use Rattle.starlark_cutting.proofs.KeptFeeds.{all_blank, none_behind, all_line}
 
 -- ---- the step
 
@@ -36,7 +36,7 @@ Finals p rest (over l) = Unit {0}
 
 measured_not : (p : Past) (rest : List ℕ) → IsMeasured p rest → all_blank (drop (leading rest) rest) ≡ true → ⊥
 measured_not p rest m h =
-    let k = and_yes (is_blank m.first) (all_blank m.more) (sym (ap all_blank m.stands) ∙ h) in
+    let k = and_parts (is_blank m.first) (all_blank m.more) (sym (ap all_blank m.stands) ∙ h) in
     false≢true (sym (none_behind rest m.more m.first m.stands) ∙ k.0)
 
 module _ (p : Past) (rest : List ℕ) (xs : List Item) (q : Past) (k : ℕ) (le : k ≤ length rest) where
@@ -87,7 +87,7 @@ finals (rules.tabbed p rest m t) = tt
 finals (rules.deepens p rest m t d) = λ blank fresh mode even. absurd (measured_not p rest m blank)
 finals (rules.fits p rest closed m t o d) = λ blank fresh mode even. absurd (measured_not p rest m blank)
 finals (rules.misfits p rest m t d o) = tt
-finals (rules.passes p b rest f c d) = λ blank fresh mode even. passed refl (joint (is_blank b) (all_blank rest) d blank) f mode even
+finals (rules.passes p b rest f c d) = λ blank fresh mode even. passed refl (and_from (is_blank b) (all_blank rest) d blank) f mode even
 finals (rules.escapes p rest f c d) = λ blank fresh mode even. solid (escapes_firm p rest f c d)
 finals (rules.joins p rest f d) = λ blank fresh mode even. absurd (not_joined p d mode even)
 finals (rules.ends_line p rest f c d) = λ blank fresh mode even. absurd (false≢true (sym fresh))

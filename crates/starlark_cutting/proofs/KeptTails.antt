@@ -1,8 +1,9 @@
 -- A body up to where it ends is read the same where another end stands there.
 use Rattle.std.proofs.Common.{◌≡◌, ◌<◌, ◌≤◌, ℕ, ◌+◌, Bool, true, false, cond, List, [], ◌∷◌, ◌++◌, length, take, drop, refl, ap, sym, ◌∙◌, arith, zero, suc, inl, inr, eqb, subst, append_assoc, length-append, length-drop}
-use Rattle.std.proofs.lemmas.Bool.{cases_Bool, false≢true}
+use Rattle.std.proofs.Math.Seq.{drop-append_seam}
+use Rattle.std.proofs.lemmas.Bool.{cases_Bool, false≢true, and_parts, eqb-true}
 use Rattle.std.proofs.lemmas.Bool.Decides.{nat_tests}
-use Rattle.std.proofs.lemmas.List.{drop-append-le, drop_all, take-append-drop, length-take-le}
+use Rattle.std.proofs.lemmas.List.{drop-append-le, take-append-drop, length-take-le}
 use Rattle.starlark_lexer.specs.declared.literal.Ending.{Ending}
 use Rattle.starlark_lexer.specs.declared.literal.Ending.TheVariants as ending
 use Rattle.starlark_lexer.specs.declared.literal.Form.{Form}
@@ -13,34 +14,15 @@ use Rattle.starlark_lexer.specs.declared.token.FStringQuote.{FStringQuote}
 use Rattle.starlark_lexer.specs.declared.token.FStringQuote.TheVariants.{Single, Double, TripleSingle, TripleDouble}
 use Rattle.starlark_lexer.specs.Literals.{mark, is_format, begins, goes_on, piece, later, by_piece, read, body}
 use Rattle.starlark_lexer.proofs.JoinedBodies.{Final}
-use Rattle.starlark_lexer.proofs.Bodies.{at_piece, later_more}
+use Rattle.starlark_lexer.proofs.Bodies.{at_start, at_piece, later_more}
 use Rattle.starlark_lexer.proofs.Pieces.{cut_of}
 use Rattle.starlark_cutting.proofs.KeptBodies.{Within, Some_bytes}
-use Rattle.starlark_cutting.proofs.KeptReads.{extent, body_once, mark_piece, inner, inner_piece, inner_same, inner_some, equal_from}
+use Rattle.starlark_cutting.proofs.KeptReads.{extent, body_once, mark_piece, inner, inner_piece, inner_same, inner_some, final_later, extent_later}
 use Rattle.starlark_cutting.proofs.Clean.{clean}
-use Rattle.starlark_cutting.proofs.KeptNumbers.{both}
 use Rattle.starlark_cutting.proofs.KeptLines.{Stops}
 use Rattle.starlark_cutting.proofs.KeptMarks.{marks_of}
 
 -- ---- a tail
-
-final_later : (n : ℕ) (e : Ending) → Final (later n e) → Final e
-final_later n (ending.Closed k) h = tt
-final_later n (ending.Field k) h = tt
-final_later n (ending.Unfinished k) h = h
-final_later n (ending.Escape k m) h = h
-
-extent_later : (n : ℕ) (e : Ending) → extent (later n e) ≡ n + extent e
-extent_later n (ending.Closed k) = refl
-extent_later n (ending.Field k) = refl
-extent_later n (ending.Unfinished k) = refl
-extent_later n (ending.Escape k m) = refl
-
-later_none : (e : Ending) → later 0 e ≡ e
-later_none (ending.Closed k) = let z : 0 + k ≡ k = omega arith in ap ending.Closed z
-later_none (ending.Field k) = let z : 0 + k ≡ k = omega arith in ap ending.Field z
-later_none (ending.Unfinished k) = let z : 0 + k ≡ k = omega arith in ap ending.Unfinished z
-later_none (ending.Escape k m) = let z : 0 + k ≡ k = omega arith in ap (λ n. ending.Escape n m) z
 
 -- an item of at most so many bytes
 abbrev pub Item_within : ℕ → Piece → Type 0
@@ -93,7 +75,7 @@ module _ (f : Form) (w o : List ℕ) (same : (b : ℕ) (bs : List ℕ) → Item_
 
   tail_by : (fuel : ℕ) (xs : List ℕ) → length xs ≤ fuel → EndsAt xs (body f 0 (xs ++ w)) → Tail xs
   unfolding EndsAt Tail
-  tail_by fuel [] le h = sym (later_none (body f 0 o))
+  tail_by fuel [] le h = sym (at_start f o)
   tail_by zero (b ∷ bs) le h = absurd (omega (arith, le))
   tail_by (suc fuel) (b ∷ bs) le h =
       let p = piece f (b ∷ bs ++ w) in
@@ -145,7 +127,7 @@ closed_front f a w h =
     let e : p ≡ Closing = front_closing f (a ∷ w) p refl (ap (λ r. r.ending) (sym (at_piece f (a ∷ w) p refl)) ∙ h) in
     elim (cases_Bool (eqb a (mark f.quote))) [
       | inl t ↦
-          let m : a ≡ mark f.quote = equal_from a (mark f.quote) t in
+          let m : a ≡ mark f.quote = eqb-true a (mark f.quote) t in
           record { first = m; more = not_closing (goes_on f.quote w) (sym (ap (λ b. piece f (b ∷ w)) m ∙ mark_piece f w) ∙ e) }
       | inr t ↦ absurd (subst Some_bytes (sym (inner_piece f a w t) ∙ e) (inner_some f a w))
     ]
@@ -194,8 +176,8 @@ stops_brace (b ∷ o) h = elim (cases_Bool (eqb b 123)) [
 closed_alike : (q : FStringQuote) (w : List ℕ) → goes_on q w ≡ true → goes_on q (mark q ∷ w) ≡ true
 closed_alike Single w h = refl
 closed_alike Double w h = refl
-closed_alike TripleSingle w h = (both (begins 39 w) (begins 39 (drop 1 w)) h).0
-closed_alike TripleDouble w h = (both (begins 34 w) (begins 34 (drop 1 w)) h).0
+closed_alike TripleSingle w h = (and_parts (begins 39 w) (begins 39 (drop 1 w)) h).0
+closed_alike TripleDouble w h = (and_parts (begins 34 w) (begins 34 (drop 1 w)) h).0
 
 brace_alike : (q : FStringQuote) (w o : List ℕ) → goes_on q (123 ∷ w) ≡ false → goes_on q (123 ∷ o) ≡ false
 brace_alike Single w o h = h
@@ -216,7 +198,7 @@ same_front : (f : Form) (a : ℕ) (w o : List ℕ) → (goes_on f.quote (a ∷ w
     → (b : ℕ) (bs : List ℕ) → Within (suc (length bs)) (piece f (b ∷ bs ++ a ∷ w)) → piece f (b ∷ bs ++ a ∷ o) ≡ piece f (b ∷ bs ++ a ∷ w)
 same_front f a w o alike b bs h = elim (cases_Bool (eqb b (mark f.quote))) [
   | inl t ↦
-      let at : (y : List ℕ) → piece f (b ∷ y) ≡ cond (goes_on f.quote y) Closing (Same 1) = λ y. ap (λ c. piece f (c ∷ y)) (equal_from b (mark f.quote) t) ∙ mark_piece f y in
+      let at : (y : List ℕ) → piece f (b ∷ y) ≡ cond (goes_on f.quote y) Closing (Same 1) = λ y. ap (λ c. piece f (c ∷ y)) (eqb-true b (mark f.quote) t) ∙ mark_piece f y in
       let n = no_marks (suc (length bs)) (goes_on f.quote (bs ++ a ∷ w)) (subst (Within (suc (length bs))) (at (bs ++ a ∷ w)) h) in
       (at (bs ++ a ∷ o) ∙ ap (λ x. cond x Closing (Same 1)) (marks_alike f.quote a w o alike bs n)) ∙ sym (at (bs ++ a ∷ w) ∙ ap (λ x. cond x Closing (Same 1)) n)
   | inr t ↦
@@ -241,13 +223,10 @@ item_front : (f : Form) (a : ℕ) (w o : List ℕ) → (goes_on f.quote (a ∷ w
     → (b : ℕ) (bs : List ℕ) → Item_within (suc (length bs)) (piece f (b ∷ bs ++ a ∷ w)) → piece f (b ∷ bs ++ a ∷ o) ≡ piece f (b ∷ bs ++ a ∷ w)
 item_front f a w o alike b bs h = same_front f a w o alike b bs (item_fits (suc (length bs)) (piece f (b ∷ bs ++ a ∷ w)) h)
 
-pub drop_front : (xs ys : List ℕ) → drop (length xs) (xs ++ ys) ≡ ys
-drop_front xs ys = drop-append-le (length xs) xs ys (omega arith) ∙ ap (λ z. z ++ ys) (drop_all (length xs) xs (omega arith))
-
 -- where it ends at the byte a, and before o likewise
 tail_closed : (f : Form) (xs : List ℕ) (a : ℕ) (w o : List ℕ) → body f 0 (xs ++ a ∷ w) ≡ ending.Closed (length xs) → body f 0 (a ∷ o) ≡ ending.Closed 0 → body f 0 (xs ++ a ∷ o) ≡ ending.Closed (length xs)
 tail_closed f xs a w o h k =
-    let here : body f 0 (a ∷ w) ≡ ending.Closed 0 = ap (body f 0) (sym (drop_front xs (a ∷ w))) ∙ body_once f (xs ++ a ∷ w) (ending.Closed (length xs)) tt h in
+    let here : body f 0 (a ∷ w) ≡ ending.Closed 0 = ap (body f 0) (sym (drop-append_seam xs (a ∷ w))) ∙ body_once f (xs ++ a ∷ w) (ending.Closed (length xs)) tt h in
     let c = closed_front f a w here in
     let d = closed_front f a o k in
     let m : goes_on f.quote (a ∷ w) ≡ true = ap (λ b. goes_on f.quote (b ∷ w)) c.first ∙ closed_alike f.quote w c.more in
@@ -279,7 +258,7 @@ text_closed f k u v o lt h s =
     let c = split_by k u (drop k u) lt refl in
     let at : (y : List ℕ) → u ++ y ≡ c.xs ++ c.a ∷ (c.r ++ y) = λ y. ap (λ x. x ++ y) c.is ∙ append_assoc c.xs (c.a ∷ c.r) y in
     let here : body f 0 (c.xs ++ c.a ∷ (c.r ++ v)) ≡ ending.Closed (length c.xs) = ap (body f 0) (sym (at v)) ∙ h ∙ ap ending.Closed (sym c.len) in
-    let once : body f 0 (c.a ∷ (c.r ++ v)) ≡ ending.Closed 0 = ap (body f 0) (sym (drop_front c.xs (c.a ∷ (c.r ++ v)))) ∙ body_once f (c.xs ++ c.a ∷ (c.r ++ v)) (ending.Closed (length c.xs)) tt here in
+    let once : body f 0 (c.a ∷ (c.r ++ v)) ≡ ending.Closed 0 = ap (body f 0) (sym (drop-append_seam c.xs (c.a ∷ (c.r ++ v)))) ∙ body_once f (c.xs ++ c.a ∷ (c.r ++ v)) (ending.Closed (length c.xs)) tt here in
     let there : body f 0 (c.a ∷ (c.r ++ o)) ≡ ending.Closed 0 = ap (λ x. body f 0 (x ++ o)) (sym c.rest) ∙ s ∙ ap (λ x. body f 0 (x ++ v)) c.rest ∙ once in
     ap (body f 0) (at o) ∙ tail_closed f c.xs c.a (c.r ++ v) (c.r ++ o) here there ∙ ap ending.Closed c.len
 
@@ -288,6 +267,6 @@ text_field f k u v o lt h s =
     let c = split_by k u (drop k u) lt refl in
     let at : (y : List ℕ) → u ++ y ≡ c.xs ++ c.a ∷ (c.r ++ y) = λ y. ap (λ x. x ++ y) c.is ∙ append_assoc c.xs (c.a ∷ c.r) y in
     let here : body f 0 (c.xs ++ c.a ∷ (c.r ++ v)) ≡ ending.Field (length c.xs) = ap (body f 0) (sym (at v)) ∙ h ∙ ap ending.Field (sym c.len) in
-    let once : body f 0 (c.a ∷ (c.r ++ v)) ≡ ending.Field 0 = ap (body f 0) (sym (drop_front c.xs (c.a ∷ (c.r ++ v)))) ∙ body_once f (c.xs ++ c.a ∷ (c.r ++ v)) (ending.Field (length c.xs)) tt here in
+    let once : body f 0 (c.a ∷ (c.r ++ v)) ≡ ending.Field 0 = ap (body f 0) (sym (drop-append_seam c.xs (c.a ∷ (c.r ++ v)))) ∙ body_once f (c.xs ++ c.a ∷ (c.r ++ v)) (ending.Field (length c.xs)) tt here in
     let there : body f 0 (c.a ∷ (c.r ++ o)) ≡ ending.Field 0 = ap (λ x. body f 0 (x ++ o)) (sym c.rest) ∙ s ∙ ap (λ x. body f 0 (x ++ v)) c.rest ∙ once in
     ap (body f 0) (at o) ∙ tail_field f c.xs c.a (c.r ++ v) (c.r ++ o) here there ∙ ap ending.Field c.len

@@ -1,5 +1,5 @@
 -- A text that is cut off behind one of its lexemes, in an f-string or outside, is cut into the same up to there.
-use Rattle.std.proofs.Common.{◌≡◌, ◌<◌, ◌≤◌, ℕ, ◌+◌, Bool, true, false, List, [], ◌∷◌, ◌++◌, length, drop, refl, ap, sym, ◌∙◌, arith, subst, append_assoc, length-append, length-drop}
+use Rattle.std.proofs.Common.{◌≡◌, ◌<◌, ◌≤◌, ℕ, ◌+◌, Bool, true, false, List, [], ◌∷◌, ◌++◌, length, drop, refl, ap, ◌∙◌, arith, subst, length-append, length-drop}
 use Rattle.std.proofs.lemmas.Bool.{false≢true}
 use Rattle.std.proofs.lemmas.List.{drop-append-le}
 use Rattle.starlark_lexer.specs.Items.{Item, Lexed, with_items}
@@ -12,7 +12,7 @@ use Rattle.starlark_cutting.specs.Opened as opened
 use Rattle.starlark_cutting.proofs.KeptMoves.{Fresh}
 use Rattle.starlark_cutting.proofs.KeptTracks.{Tracks, tracks}
 use Rattle.starlark_cutting.proofs.KeptFinal.{one_inner}
-use Rattle.starlark_cutting.proofs.KeptCut.{Upto, here, there, both_tracks}
+use Rattle.starlark_cutting.proofs.KeptCut.{Upto, here, there, joint_items, both_tracks}
 use Rattle.starlark_cutting.proofs.KeptLinked.{Linked, links, names, way_append, names_append}
 use Rattle.starlark_cutting.proofs.KeptMarks.{marks_of}
 use Rattle.starlark_cutting.proofs.KeptOpen.{Stands}
@@ -92,6 +92,5 @@ cut_on (there p rest xs q more ys i step le far) u v is at n k linked way nest f
       tracks = both_tracks p xs q ys c.past t c.tracks;
       stands = λ o f. (go o f).0;
       lex = λ o f m d.
-          let both : with_items xs (with_items ys m) ≡ with_items (xs ++ ys) m = λ i. record { items = sym (append_assoc xs ys m.items) i; fault = m.fault } in
-          subst (Lex p (u ++ o)) both (goes_on p (u ++ o) xs q (drop g.k u ++ o) (with_items ys m) (go o f).1 (c.lex o (subst (λ b. Follows b c.past.mode o) flag f) m d));
+          subst (Lex p (u ++ o)) (joint_items xs ys m) (goes_on p (u ++ o) xs q (drop g.k u ++ o) (with_items ys m) (go o f).1 (c.lex o (subst (λ b. Follows b c.past.mode o) flag f) m d));
     }

@@ -46,3 +46,4 @@ pub mod Alls
 pub mod Variants
 pub mod Commented
 pub mod Uncommented
+pub mod CleanEnds

@@ -131,7 +131,7 @@ one_clause : {a b c : List Item} {cs : tree.Clauses} {m : tree.Clause} → SoFar
 one_clause no_clause d = g.first d
 one_clause (clauses cs) d = g.and_for cs d
 
-plain_close : (p : Bracket) → Plain (closing_bracket p)
+pub plain_close : (p : Bracket) → Plain (closing_bracket p)
 plain_close round = (refl, refl)
 plain_close square = (refl, refl)
 plain_close curly = (refl, refl)

@@ -8,7 +8,9 @@ use Rattle.starlark_grammar.specs.Marks.{Clean}
 use Rattle.starlark_grammar.specs.Frames.{Blocks, outer, inner, Suites, at_line}
 use Rattle.starlark_grammar.specs.Runs.{Trace, Accepts, bottom, marks_of, note, run}
 use Rattle.starlark_joining.specs.Kept.{Kept, SameTops, all_same, but_last}
-use Rattle.starlark_joining.proofs.Walking.{CleanRun, runs_end, halts, bottom_note, clean_now, clean_then, clean_both}
+use Rattle.starlark_grammar.proofs.Sound.{bottom_note}
+use Rattle.starlark_grammar.proofs.Steps.{runs_end}
+use Rattle.starlark_joining.proofs.Walking.{CleanRun, halts, clean_now, clean_then, clean_both}
 use Rattle.starlark_joining.proofs.Level.{no_stuck}
 use Rattle.starlark_joining.proofs.Tops.{SameBlocks, in_outer, in_inner, closed, closed_row, first_self}
 use Rattle.starlark_joining.proofs.Rowed.{NoElse, closing, dedent_runs}

@@ -9,7 +9,8 @@ use Rattle.starlark_grammar.specs.Marks.{Clean}
 use Rattle.starlark_grammar.specs.Frames.{State}
 use Rattle.starlark_grammar.specs.Machine.{move, step}
 use Rattle.starlark_grammar.specs.Runs.{met, Accepts, bottom, marks_of, note, run}
-use Rattle.starlark_joining.proofs.Walking.{CleanRun, runs_on, halts, bottom_note, clean_now, clean_then, clean_both}
+use Rattle.starlark_grammar.proofs.Sound.{bottom_note}
+use Rattle.starlark_joining.proofs.Walking.{CleanRun, runs_on, halts, clean_now, clean_then, clean_both}
 use Rattle.starlark_joining.proofs.Level.{no_stuck}
 use Rattle.starlark_joining.proofs.Rows.{Row, RowOr, newline_row}
 

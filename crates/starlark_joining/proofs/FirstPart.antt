@@ -12,7 +12,9 @@ use Rattle.starlark_grammar.specs.Frames.{Blocks, outer, Suites, State, at_line,
 use Rattle.starlark_grammar.specs.Machine.{settled}
 use Rattle.starlark_grammar.specs.Runs.{Accepts, bottom, marks_of, note, run, initial}
 use Rattle.starlark_joining.specs.Kept.{Kept, SameTops}
-use Rattle.starlark_joining.proofs.Walking.{CleanRun, runs_on, runs_end, halts, bottom_note, clean_now, clean_then, clean_both}
+use Rattle.starlark_grammar.proofs.Sound.{bottom_note}
+use Rattle.starlark_grammar.proofs.Steps.{runs_end}
+use Rattle.starlark_joining.proofs.Walking.{CleanRun, runs_on, halts, clean_now, clean_then, clean_both}
 use Rattle.starlark_joining.proofs.Level.{no_stuck}
 use Rattle.starlark_joining.proofs.Rows.{Row, row_line, row_for, row_if, row_indent}
 use Rattle.starlark_joining.proofs.Coming.{ends_line, Comes, Fails, comes}

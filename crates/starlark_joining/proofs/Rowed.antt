@@ -8,7 +8,8 @@ use Rattle.starlark_grammar.specs.Nodes.{block_of}
 use Rattle.starlark_grammar.specs.Frames.{Blocks, inner, Ifs, Suites, of_if, of_else, of_for, of_def, head, at_line, behind_for, behind_if}
 use Rattle.starlark_grammar.specs.Machine.{settled, close}
 use Rattle.starlark_grammar.specs.Runs.{note, run}
-use Rattle.starlark_joining.proofs.Walking.{runs, runs_end, runs_on}
+use Rattle.starlark_grammar.proofs.Steps.{runs, runs_end}
+use Rattle.starlark_joining.proofs.Walking.{runs_on}
 use Rattle.starlark_joining.proofs.Tops.{closed}
 
 -- an `if` goes on with it

@@ -7,6 +7,7 @@ use Rattle.starlark_grammar.specs.Events.{Event}
 use Rattle.starlark_grammar.specs.Frames.{Blocks, outer, State, at_line}
 use Rattle.starlark_grammar.specs.Machine.{step}
 use Rattle.starlark_grammar.specs.Runs.{Trace, Accepts, Stuck, Note, note, end_line, finish, met, run}
+use Rattle.starlark_grammar.proofs.Steps.{runs_end}
 use Rattle.starlark_joining.specs.Same.{same_when, SameSequence, same_no_statements}
 use Rattle.starlark_joining.specs.Joined.{SameEvent, SameItems, no_items, and_item, behind, Greater}
 use Rattle.starlark_joining.proofs.SameFrames.{SameBlocks, b_outer, b_inner, e_outer, SameState, s_wants, s_has, s_stands, s_named, s_list, s_next, s_line, s_for, s_if, s_colon, s_suite, s_indent, s_small, s_semicolon, s_return, s_load_opens, s_load_module, s_load_named, s_load_symbol, s_load_equal, s_load_other, s_load_behind, s_def_name, s_def_opens, s_param, s_star, s_stars, s_name, s_behind_param, s_result, SameStep, both_stop, both_go}
@@ -64,10 +65,6 @@ note_same xs ys (an_event e) t = same_note e t
 -- what is behind a step
 abbrev arrive : List Item → List Item → Option State → Trace
 arrive ys xs o = elim o [ None ↦ Stuck ys | Some s ↦ run s xs ]
-
-runs_end : (s : State) → run s [] ≡ note [] (met s None) (finish s)
-unfolding run
-runs_end s = refl
 
 runs : (s : State) (x : Item) (xs : List Item) → run s (x ∷ xs) ≡ note (x ∷ xs) (met s (Some x.lexeme)) (arrive (x ∷ xs) xs (step s x))
 unfolding run

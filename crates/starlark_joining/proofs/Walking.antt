@@ -1,28 +1,15 @@
 -- Steps of the machine, and whether what it meets breaks a rule at once.
-use Rattle.std.proofs.Common.{◌≡◌, ◌∷◌, ◌∙◌, [], List, Option, Some, None, refl, ap}
+use Rattle.std.proofs.Common.{◌≡◌, ◌∷◌, ◌∙◌, List, Option, Some, None, ap}
 use Rattle.starlark_lexer.specs.Items.{Item}
 use Rattle.starlark_lexer.specs.declared.dialect.Dialect.{Dialect}
 use Rattle.starlark_grammar.specs.Events.{Event, breaks_at_once}
 use Rattle.starlark_grammar.specs.Marks.{Clean}
 use Rattle.starlark_grammar.specs.Frames.{State}
 use Rattle.starlark_grammar.specs.Machine.{step}
-use Rattle.starlark_grammar.specs.Runs.{met, Trace, Stuck, bottom, marks_of, note, finish, run}
-
--- behind a token
-abbrev pub beyond : Item → List Item → Option State → Trace
-beyond x xs o = elim o [ None ↦ Stuck (x ∷ xs) | Some s ↦ run s xs ]
-
-pub runs : (s : State) (x : Item) (xs : List Item) → run s (x ∷ xs) ≡ note (x ∷ xs) (met s (Some x.lexeme)) (beyond x xs (step s x))
-unfolding run
-runs s x xs = refl
-
-pub runs_end : (s : State) → run s [] ≡ note [] (met s None) (finish s)
-unfolding run
-runs_end s = refl
-
-pub bottom_note : (xs : List Item) (m : Option Event) (v : Trace) → bottom (note xs m v) ≡ bottom v
-bottom_note xs None v = refl
-bottom_note xs (Some e) v = refl
+use Rattle.starlark_grammar.specs.Runs.{met, Trace, Stuck, bottom, marks_of, note, run}
+use Rattle.starlark_grammar.proofs.Dead.{beyond}
+use Rattle.starlark_grammar.proofs.Sound.{bottom_note}
+use Rattle.starlark_grammar.proofs.Steps.{runs}
 
 -- what is met breaks no rule
 abbrev pub CleanHere : Dialect → Option Event → Type 0

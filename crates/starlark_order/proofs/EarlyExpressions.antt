@@ -1,5 +1,5 @@
 -- An expression and its parts begin at tokens, none of which is layout.
-use Rattle.std.proofs.Common.{ℕ, ◌≡◌, ◌<◌, List, Bool, false, Some, None, refl, sym, subst}
+use Rattle.std.proofs.Common.{ℕ, ◌≡◌, ◌<◌, List, Bool, false, Some, refl, sym, subst}
 use Rattle.starlark_place.specs.Place.{Extent}
 use Rattle.starlark_rulebook.specs.Targets.{target_of, targets_of, member_target}
 use Rattle.starlark_grammar.specs.Spans.{stretch}
@@ -12,12 +12,10 @@ use Rattle.starlark_grammar.specs.Expressions as g
 use Rattle.starlark_grammar.specs.Expressions.{Level, Member, Members, Listed, Listing, listing}
 use Rattle.starlark_order.specs.Ordered.{is_layout}
 use Rattle.starlark_order.specs.Beginnings.{expr_begins, member_begins, members_begin, bound_begins, annotation_begins, subscript_begins, clause_begins, clauses_begin}
+use Rattle.starlark_grammar.proofs.Smalls.{begins_none}
 use Rattle.starlark_order.proofs.Early.{Early, no_more, and_more, ◌with◌, first_of, AreEarly, behind_token, Gives, becomes, ◌then◌, token, past, nothing_read}
 
 -- ---- tokens
-
-begins_none : {P : Type 0} {c : Beginning} → None ≡ Some c → P
-begins_none h = absurd cc
 
 -- what begins an expression, or closes brackets
 begins : (x : Lexeme) {c : Beginning} → beginning x ≡ Some c → is_layout x ≡ false

@@ -1,15 +1,13 @@
 -- An expression begins with a token that has bytes, and is read up to a later one.
-use Rattle.std.proofs.Common.{ℕ, ◌≡◌, List, Bool, false, Some, None, refl}
+use Rattle.std.proofs.Common.{ℕ, ◌≡◌, List, Bool, false, Some, refl}
 use Rattle.starlark_lexer.specs.Items.{Lexeme, newline, indent, dedent, fstring_text, fstring_expr_start, fstring_expr_end, fstring_bang, fstring_end, Item}
 use Rattle.starlark_ast.specs.Tree as tree
 use Rattle.starlark_grammar.specs.Tables.{Beginning, beginning, Kind}
 use Rattle.starlark_grammar.specs.Expressions as g
 use Rattle.starlark_grammar.specs.Expressions.{Level, Member, Members, Listed, Listing, listing}
 use Rattle.starlark_order.specs.Ordered.{is_inner}
+use Rattle.starlark_grammar.proofs.Smalls.{begins_none}
 use Rattle.starlark_order.proofs.Tokens.{Laid, Passes, Begun, passed, stays, skips, ◌>>◌, extends, leads, goes}
-
-begins_none : {P : Type 0} {c : Beginning} → None ≡ Some c → P
-begins_none h = absurd cc
 
 -- such a token begins no expression
 no_inner : (x : Lexeme) {c : Beginning} → beginning x ≡ Some c → is_inner x ≡ false

@@ -8,6 +8,7 @@ use Rattle.std.specs.declared.alloc.Global.{Global}
 use Rattle.std.specs.declared.vec.Vec.{Vec}
 use Rattle.std.proofs.lemmas.Bool.{cases_Bool}
 use Rattle.std.proofs.lemmas.List.{append-nil, map-append, take_more}
+use Rattle.std.proofs.lemmas.List.Sums.{fold-append}
 use Rattle.std.proofs.lemmas.List.Elements.{All-append, All-cons, All-head, All-nil}
 use Rattle.indexmap.specs.IndexMap.{insert_entry}
 use Rattle.starlark_place.specs.Place.{File, Holds, file_place}
@@ -39,15 +40,11 @@ one_bound (e ∷ es) k v = elim (cases_Bool (bytes_eq k.now e.0.now)) [
   | inr h ↦ rw h (ap (λ r. binding e ∷ r) (one_bound es k v))
 ]
 
-fold_more : {A B : Type 0} (f : B → A → B) (z : B) (xs : List A) (x : A) → fold f z (xs ++ x ∷ []) ≡ f (fold f z xs) x
-fold_more f z [] x = refl
-fold_more f z (y ∷ xs) x = fold_more f (f z y) xs x
-
 pub bound_more : (args : List Arg) (i : ℕ) (x : Arg) (es fs : List (Text × Text)) (k v : Text) → i < length args → x ≡ get_or args i x → k.now ≡ string_bytes x.local.node.ident → v.now ≡ string_bytes x.their.node
     → fs ≡ insert_entry (λ x y. bytes_eq x.now y.now) es k v → map binding es ≡ bindings (symbols (take i args)) → map binding fs ≡ bindings (symbols (take (i + 1) args))
 bound_more args i x es fs k v below is name their e h =
     ap (map binding) e ∙ one_bound es k v ∙ (λ j. bound_too (h j) (record { local = name j; their = their j }))
-    ∙ sym (ap (λ xs. bindings (symbols xs)) (take_more args i x below ∙ ap (λ y. take i args ++ y ∷ []) (sym is)) ∙ ap bindings (fold_more _ t.no_symbols (take i args) x))
+    ∙ sym (ap (λ xs. bindings (symbols xs)) (take_more args i x below ∙ ap (λ y. take i args ++ y ∷ []) (sym is)) ∙ ap bindings (fold-append _ t.no_symbols (take i args) (x ∷ [])))
 
 -- ---- loads
 

@@ -1,5 +1,5 @@
 -- The tree of a text is one line or a list of lines, and each statement at its top has a word.
-use Rattle.std.proofs.Common.{◌≡◌, ℕ, List, [], ◌∷◌, ◌++◌, Option, None, Some, false, refl}
+use Rattle.std.proofs.Common.{◌≡◌, ℕ, List, [], ◌∷◌, None, Some, false, refl}
 use Rattle.std.specs.Prelude.{IsSome}
 use Rattle.std.specs.List.{All}
 use Rattle.std.proofs.lemmas.List.Elements.{All-nil, All-cons, All-append}
@@ -9,11 +9,11 @@ use Rattle.starlark_ast.specs.Tree as t
 use Rattle.starlark_ast.specs.Tree.{Statement, Sequence}
 use Rattle.starlark_rulebook.specs.Kept.{kept_rules}
 use Rattle.starlark_rulebook.specs.Late.{at_top_level, expressions_rules, late_rules, sequence_rules, statement_rules}
-use Rattle.starlark_rulebook.specs.Rules.{Finding, first_finding, first_of}
 use Rattle.starlark_grammar.specs.Events.{end_finding}
 use Rattle.starlark_grammar.specs.Grammar.{Derives, Statements, Stmt, Tail, whole, nothing, blank, next_stmt, simple, branches, loops, defines, only, or_else, or_if}
 use Rattle.starlark_grammar.specs.Nodes.{block_of}
 use Rattle.starlark_grammar.specs.Simple.{Simple, Small, Smalls, returns, returns_it, breaks_off, continues, passes, loads, evaluates, assigns, annotates, one_small, next_small, row, row_semicolon}
+use Rattle.starlark_grammar.proofs.CleanEnds.{both_empty, first_empty}
 use Rattle.starlark_parts.specs.Flat.{AllIn, AreRows, AreWorded, IsFlat, IsRow, is_list}
 use Rattle.starlark_parts.specs.Tops.{all_top, top_level, word_of}
 
@@ -108,22 +108,6 @@ Worded s = IsSome (word_of s)
 one : (s : Statement) → Worded s → All Worded (s ∷ [])
 one s h = All-cons Worded s [] h (All-nil Worded)
 
-none_left : (xs ys : List Finding) → xs ++ ys ≡ [] → xs ≡ []
-none_left [] ys h = refl
-none_left (x ∷ xs) ys h = absurd (cc)
-
-none_right : (xs ys : List Finding) → xs ++ ys ≡ [] → ys ≡ []
-none_right [] ys h = h
-none_right (x ∷ xs) ys h = absurd (cc)
-
-none_behind : (x y : Option Finding) → first_of x y ≡ None → y ≡ None
-none_behind None y h = h
-none_behind (Some x) y h = absurd (cc)
-
-no_findings : (xs : List Finding) → first_finding xs ≡ None → xs ≡ []
-no_findings [] h = refl
-no_findings (x ∷ xs) h = absurd (cc)
-
 mutual
   worded : (d : Dialect) (s : Statement) → statement_rules d at_top_level s ≡ [] → All Worded (top_level s)
   worded d (t.break s) h = absurd (cc)
@@ -142,9 +126,9 @@ mutual
 
   worded_all : (d : Dialect) (ss : Sequence) → sequence_rules d at_top_level ss ≡ [] → All Worded (all_top ss)
   worded_all d t.no_statements h = All-nil Worded
-  worded_all d (t.add_statement ss a) h = All-append Worded (all_top ss) (top_level a) (worded_all d ss (none_left (sequence_rules d at_top_level ss) (statement_rules d at_top_level a) h)) (worded d a (none_right (sequence_rules d at_top_level ss) (statement_rules d at_top_level a) h))
+  worded_all d (t.add_statement ss a) h = All-append Worded (all_top ss) (top_level a) (worded_all d ss (both_empty (sequence_rules d at_top_level ss) (statement_rules d at_top_level a) h).0) (worded d a (both_empty (sequence_rules d at_top_level ss) (statement_rules d at_top_level a) h).1)
 
 pub are_worded : (d : Dialect) (tree : Statement) → end_finding d tree ≡ None → AreWorded tree
 are_worded d tree h =
-    let late : late_rules d tree ≡ [] = no_findings (late_rules d tree) (none_behind (first_finding (kept_rules d tree)) (first_finding (late_rules d tree)) h) in
-    record { words = worded d tree (none_left (statement_rules d at_top_level tree) (expressions_rules d tree) late) }
+    let late : late_rules d tree ≡ [] = (first_empty (kept_rules d tree) (late_rules d tree) h).1 in
+    record { words = worded d tree (both_empty (statement_rules d at_top_level tree) (expressions_rules d tree) late).0 }

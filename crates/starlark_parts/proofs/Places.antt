@@ -8,6 +8,7 @@ use Rattle.std.proofs.lemmas.List.Sums.{sum_by-cons, sum_by-append, count_by-le-
 use Rattle.starlark_place.specs.Place.{is_feed, is_continuation, last_line, characters, line_at, column_at}
 use Rattle.starlark_parts.specs.Cursor.{IsAt, behind}
 use Rattle.starlark_parts.specs.declared.cursor.Cursor.{Cursor}
+use Rattle.starlark_place.proofs.Lines.{last_line-le}
 
 feeds-more : (xs : List ℕ) (b : ℕ) → count_by is_feed (xs ++ b ∷ []) ≡ count_by is_feed xs + cond (is_feed b) 1 0
 feeds-more xs b = omega (arith, sum_by-append (λ x. cond (is_feed x) 1 0) xs (b ∷ []), sum_by-cons (λ x. cond (is_feed x) 1 0) b [])
@@ -53,17 +54,9 @@ at_behind text c h lt =
       column = ap (λ n. cond (is_feed b) 0 (cond (not (is_continuation b)) (n + 1) n)) h.column ∙ sym (column-more text c.place lt);
     }
 
-last_line-short : (xs : List ℕ) → length (last_line xs) ≤ length xs
-last_line-short [] = omega arith
-last_line-short (x ∷ xs) =
-    elim (cases_Bool (nat_eq (count_by is_feed xs) 0)) [
-      | inl z ↦ elim (cases_Bool (is_feed x)) [ inl f ↦ rw (z, f) (omega arith) | inr f ↦ rw (z, f) (omega arith) ]
-      | inr z ↦ rw z (omega (arith, last_line-short xs))
-    ]
-
 pub column_few : (text : List ℕ) (c : Cursor) → IsAt text c → c.column ≤ c.place
 column_few text c h =
-    omega (arith, h.column, count_by-le-length (λ b. not (is_continuation b)) (last_line (take c.place text)), last_line-short (take c.place text), length-take-le c.place text h.within)
+    omega (arith, h.column, count_by-le-length (λ b. not (is_continuation b)) (last_line (take c.place text)), last_line-le (take c.place text), length-take-le c.place text h.within)
 
 pub at_start : (text : List ℕ) → (let c : Cursor = record { place = 0; line = 0; column = 0 } in IsAt text c)
 at_start text = record { within = omega arith; line = refl; column = refl }

@@ -1,10 +1,9 @@
 -- Arguments of calls.
-use Rattle.std.proofs.Common.{ℕ, ◌≡◌, ◌≢◌, List, ◌∷◌, Option, Some, None, Bool, true, false, zero, suc, cond, ◌≤◌, refl, ap, sym, subst, ◌∙◌}
+use Rattle.std.proofs.Common.{ℕ, ◌≡◌, ◌≢◌, List, ◌∷◌, Some, None, Bool, false, zero, suc, ◌≤◌, refl, ap, sym, subst, ◌∙◌}
 use Rattle.starlark_place.specs.Place.{Extent}
 use Rattle.starlark_lexer.specs.Items.{Lexeme, Item, item, identifier, comma, equal, star, star_star, closing_round}
 use Rattle.starlark_lexer.specs.declared.dialect.Dialect.{Dialect}
 use Rattle.starlark_ast.specs.Tree as tree
-use Rattle.starlark_grammar.specs.Events.{Event}
 use Rattle.starlark_grammar.specs.Nodes.{leaf_at, start}
 use Rattle.starlark_grammar.specs.Spans.{stretch}
 use Rattle.starlark_grammar.specs.Sorts.{name_of}
@@ -15,6 +14,7 @@ use Rattle.starlark_grammar.specs.Machine.{tails, step, move}
 use Rattle.starlark_grammar.specs.Runs.{ends, operates}
 use Rattle.starlark_read.specs.Reads.{Left, first_lexeme, name_ahead, Passes, Goes, Sticks}
 use Rattle.starlark_grammar.proofs.Steps.{at_token}
+use Rattle.starlark_grammar.proofs.Openings.{either_none}
 use Rattle.starlark_read.proofs.Suffixing.{in_order}
 use Rattle.starlark_read.proofs.Exits.{goes, runs_as, state_is, tokens_are, stays_there, not_next, stops}
 
@@ -55,14 +55,10 @@ no_argument_end q ms e f k ts us vs g h = stays_there (h.0 ∙ g.0) (stops _ ts 
     here closing_round i j a b = absurd (b refl)
     here _ i j a b = refl
 
-one_of : (b : Bool) (o : Option Event) → o ≡ None → cond b None o ≡ None
-one_of true o h = refl
-one_of false o h = h
-
 -- nothing is met in tails where nothing is met behind them
 pub nothing_in_tails : (c n : ℕ) (k : Frames) (q : tree.Expr) (e : ℕ) (x : Lexeme) → ends k q e (Some x) ≡ None → ends (tails c n k) q e (Some x) ≡ None
 nothing_in_tails zero n k q e x h = h
-nothing_in_tails (suc c) n k q e x h = one_of (operates (suffix x) n) _ (nothing_in_tails c (suc n) k q e x h)
+nothing_in_tails (suc c) n k q e x h = either_none (operates (suffix x) n) _ (nothing_in_tails c (suc n) k q e x h)
 
 -- an identifier that is no name of an argument is an expression
 pub unnamed : {d : Dialect} (q : tree.Expr) (ms : tree.Members) (f : ℕ) (n : List ℕ) (g h : ℕ) (k : Frames) (ts us : Left) → (us ≡ ts) × (first_lexeme ts.items ≢ Some equal) → Goes d (perhaps_named q ms f n g h k) ts (has (leaf_at (tree.name n) (stretch g h)) h (tails 13 0 (inside (member (behind q) ms f g an_argument) k))) us

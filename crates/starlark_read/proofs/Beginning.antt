@@ -11,23 +11,18 @@ use Rattle.starlark_grammar.specs.Frames.{Frames, inside, tail, wants, has, stan
 use Rattle.starlark_grammar.specs.Machine.{tails, begun, begin, begin_with, step}
 use Rattle.starlark_read.specs.Reads.{Left, first_lexeme, begins_ahead, begins_by, sign_ahead, sign_in, Passes, Goes}
 use Rattle.starlark_grammar.proofs.Steps.{at_token, same}
+use Rattle.starlark_grammar.proofs.Reading.{eq_true, ne_false}
 use Rattle.starlark_read.proofs.Exits.{runs_as, goes}
 
 pub tails_end : (c n : ℕ) (k : Frames) → tails c n (tail (n + c) k) ≡ tails (suc c) n k
 tails_end zero n k = rw (add-zero n)
 tails_end (suc c) n k = let count : n + suc c ≡ suc n + c = omega arith in rw count (ap (tail n) (tails_end c (suc n) k))
 
-same_number : (n : ℕ) → nat_eq n n ≡ true
-same_number n = grind arith
-
-not_same : (a n : ℕ) → a ≢ n → nat_eq a n ≡ false
-not_same a n h = grind arith
-
 -- an expression of level 0, or of a level above
 low_begins : (n : ℕ) (b : Beginning) (i j : ℕ) (k : Frames) → (begins_at b ≡ 0) ⊎ (n < begins_at b) → begin n b i j k ≡ begin 0 b i j (tails n 1 k)
 low_begins zero b i j k h = refl
 low_begins (suc n) b i j k h =
-    ap (λ y. cond y (Some (begun b i j k)) (begin n b i j (tail (suc n) k))) (not_same (begins_at b) (suc n) (out h))
+    ap (λ y. cond y (Some (begun b i j k)) (begin n b i j (tail (suc n) k))) (ne_false (begins_at b) (suc n) (out h))
     ∙ low_begins n b i j (tail (suc n) k) (on h)
     ∙ ap (begin 0 b i j) (let one : suc n ≡ 1 + n = omega arith in rw one (tails_end n 1 k))
   where
@@ -46,10 +41,10 @@ high_begins zero c m b i j k w h =
     let none : c ≡ 0 = omega (arith, w) in
     ap (λ y. cond (nat_eq y 0) (Some (begun b i j k)) None) low ∙ ap (λ y. Some (begun b i j (tails y (suc m) k))) (sym none)
 high_begins (suc n) zero m b i j k w h =
-    let here : nat_eq (begins_at b) (suc n) ≡ true = let e : begins_at b ≡ suc n = omega (arith, w, h) in ap (λ y. nat_eq y (suc n)) e ∙ same_number (suc n) in
+    let here : nat_eq (begins_at b) (suc n) ≡ true = let e : begins_at b ≡ suc n = omega (arith, w, h) in ap (λ y. nat_eq y (suc n)) e ∙ eq_true (suc n) in
     ap (λ y. cond y (Some (begun b i j k)) (begin n b i j (tail (suc n) k))) here
 high_begins (suc n) (suc c) m b i j k w h =
-    let other : nat_eq (begins_at b) (suc n) ≡ false = not_same (begins_at b) (suc n) (λ e. omega (arith, e, h, w)) in
+    let other : nat_eq (begins_at b) (suc n) ≡ false = ne_false (begins_at b) (suc n) (λ e. omega (arith, e, h, w)) in
     let count : suc n ≡ suc m + c = omega (arith, w) in
     ap (λ y. cond y (Some (begun b i j k)) (begin n b i j (tail (suc n) k))) other
     ∙ high_begins n c m b i j (tail (suc n) k) (omega (arith, w)) h

@@ -17,8 +17,9 @@ use Rattle.starlark_grammar.specs.Frames.{Frames, State, has}
 use Rattle.starlark_grammar.specs.Machine.{step}
 use Rattle.starlark_grammar.specs.Runs.{Stuck, finish, met, note, run}
 use Rattle.starlark_grammar.specs.Verdicts.{Verdict, Unexpected, Broken, answer, broken_at, judge}
-use Rattle.starlark_read.specs.Reads.{Left, first_lexeme, Passes, SameEnd, Goes, Sticks, Answers, Comes}
+use Rattle.starlark_read.specs.Reads.{Left, first_lexeme, Passes, SameEnd, Goes, Sticks, Answers, Comes, name_ahead}
 use Rattle.starlark_grammar.proofs.Steps.{arrive, runs, runs_end, passes_on, stays_at}
+use Rattle.starlark_grammar.specs.Sorts.{name_of}
 
 -- where the tokens end
 pub same_end : {ts : Left} → SameEnd ts ts
@@ -138,6 +139,9 @@ stays_there {d} {s} {ts} w p = subst (λ vs. Sticks d s ts vs) (sym w) p
 
 pub not_next : (ts : Left) (x : Item) (xs : List Item) (w : Lexeme) → first_lexeme ts.items ≢ Some w → ts.items ≡ x ∷ xs → x.lexeme ≢ w
 not_next ts x xs w h q z = h (ap first_lexeme q ∙ ap Some z)
+
+pub nameless : (ts : Left) (x : Item) (xs : List Item) → name_ahead ts.items ≡ None → ts.items ≡ x ∷ xs → name_of x.lexeme ≡ None
+nameless ts x xs h q = sym (ap name_ahead q) ∙ h
 
 -- what `accept` reads, and what it leaves
 pub read_it : (ts us : Left) (w : Lexeme) (b : Bool) → b ≡ true → MatchBool b (Passes ts (item (start ts.items) w us.last) us) ((us ≡ ts) × (first_lexeme ts.items ≢ Some w)) → Passes ts (item (start ts.items) w us.last) us

@@ -1,5 +1,6 @@
 -- Steps of the machine between brackets.
-use Rattle.std.proofs.Common.{◌≡◌, ◌≢◌, ◌⊎◌, inl, inr, ℕ, List, [], ◌∷◌, ◌++◌, Option, Some, None, Bool, true, false, nat_eq, cond, MatchOption, refl, ap, sym, subst, ◌∙◌, fold}
+use Rattle.std.proofs.Common.{◌≡◌, ◌≢◌, ◌⊎◌, inl, inr, ℕ, List, [], ◌∷◌, ◌++◌, Option, Some, None, Bool, true, false, nat_eq, cond, MatchOption, refl, ap, sym, subst, ◌∙◌}
+use Rattle.std.proofs.lemmas.List.Sums.{fold-append}
 use Rattle.std.specs.Bool.{MatchBool}
 use Rattle.starlark_place.specs.Place.{Extent}
 use Rattle.starlark_lexer.specs.Items.{Lexeme, Item, item, lexeme_of, identifier, integer, float, string, bytes, ellipsis, fstring_start, opening_round, opening_square, opening_curly, closing_round, closing_square, closing_curly, comma, colon, keyword_for}
@@ -11,7 +12,7 @@ use Rattle.starlark_grammar.specs.Spans.{stretch}
 use Rattle.starlark_grammar.specs.Nodes.{start, leaf_at}
 use Rattle.starlark_grammar.specs.Sorts.{sort}
 use Rattle.starlark_grammar.specs.Tables.{Bracket, round, square, curly, closing_bracket, kind_in, tests, enclosed, leaf, beginning}
-use Rattle.starlark_grammar.specs.Points.{Place, brackets, close_of, Part, an_item, member_of, Frame, member, key, Point, member_wanted, member_read, key_read, Outcome, on, first_at, clause_behind}
+use Rattle.starlark_grammar.specs.Points.{Place, brackets, close_of, Part, an_item, member_of, Frame, member, key, Point, member_wanted, member_read, key_read, Outcome, on, first_at, clause_behind, on_some}
 use Rattle.starlark_grammar.specs.Frames.{Frames, tail, inside, State, wants, has, stands}
 use Rattle.starlark_grammar.specs.Machine.{goes as to, begin_with, else_state, move, step}
 use Rattle.starlark_grammar.specs.Runs.{Stuck, met_at, note, run}
@@ -67,10 +68,9 @@ both_none y x = go (nat_eq (sort y) (sort x))
     go true = refl
     go false = refl
 
-pub plain_closing : (p : Bracket) → Plain (closing_bracket p)
-plain_closing round = (refl, refl)
-plain_closing square = (refl, refl)
-plain_closing curly = (refl, refl)
+pub nothing_there : {A : Type 0} (o : Option A) (h : A → Option Outcome) (z : Option Outcome) → o ≡ None → on_some o h z ≡ z
+nothing_there None h z w = refl
+nothing_there (Some a) h z w = absurd (cc)
 
 pub or_none : (o : Option State) → o ≡ else_state o None
 or_none None = refl
@@ -149,12 +149,8 @@ gathers_read square (tree.more ms l) m outer inner n = refl
 gathers_read curly (tree.more ms l) m outer inner n = refl
 
 -- one more member
-pub fold_push : {A B : Type 0} (g : B → A → B) (z : B) (xs : List A) (x : A) → fold g z (xs ++ x ∷ []) ≡ g (fold g z xs) x
-fold_push g z [] x = refl
-fold_push g z (y ∷ xs) x = fold_push g (g z y) xs x
-
 pub one_more : {X : Type 0} (h : X → tree.Member) (xs : List X) (x : X) → members h (xs ++ x ∷ []) ≡ tree.more (members h xs) (h x)
-one_more h xs x = fold_push (λ ms y. tree.more ms (h y)) tree.none xs x
+one_more h xs x = fold-append (λ ms y. tree.more ms (h y)) tree.none xs (x ∷ [])
 
 pub first_kept : (ms : tree.Members) (f i : ℕ) → ms ≢ tree.none → first_at ms f i ≡ f
 first_kept tree.none f i n = absurd (n refl)

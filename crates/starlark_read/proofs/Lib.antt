@@ -13,7 +13,6 @@ pub mod Typing
 pub mod Assigning
 pub mod Returning
 pub mod Branching
-pub mod Cleaning
 pub mod Suites
 pub mod Loading
 pub mod Rows

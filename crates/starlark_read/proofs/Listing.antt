@@ -1,5 +1,6 @@
 -- Steps of the machine in lists without brackets, and in clauses.
 use Rattle.std.proofs.Common.{◌≡◌, ◌≢◌, ℕ, List, [], ◌∷◌, ◌++◌, Option, Some, None, Bool, true, false, not, cond, Result, refl, ap, sym, subst, ◌∙◌, length}
+use Rattle.std.proofs.lemmas.List.Sums.{fold-append}
 use Rattle.starlark_place.specs.Place.{Extent}
 use Rattle.starlark_place.specs.declared.pos.Spanned.{Spanned}
 use Rattle.starlark_lexer.specs.Items.{Lexeme, Item, item, comma, keyword_in, keyword_for, keyword_if}
@@ -22,8 +23,9 @@ use Rattle.starlark_grammar.specs.Runs.{Stuck, ends, run}
 use Rattle.starlark_grammar.specs.Verdicts.{Broken, answer, begins_test, judge}
 use Rattle.starlark_read.specs.Reads.{Left, first_lexeme, Passes, Goes, Sticks, Answers, Comes, Unbracketed, in_statement, in_clause, kind_within, one_of, wants_first}
 use Rattle.starlark_grammar.proofs.Steps.{arrive, runs, runs_end, at_token, same}
+use Rattle.starlark_grammar.proofs.Reached.{plain_close}
 use Rattle.starlark_read.proofs.Exits.{begins, goes, broken, runs_as, same_end, seen_as, state_is, stops, not_next}
-use Rattle.starlark_read.proofs.Gathering.{both_none, other, or_none, fold_push, plain_closing}
+use Rattle.starlark_read.proofs.Gathering.{both_none, other, or_none}
 
 -- the first member may come
 pub list_begins : {d : Dialect} (k : Unbracketed) (n : ℕ) (ts : Left) → level_of (kind_within k) ≡ n → Goes d (wants_first k) ts (wants n (one_of k tree.none (start ts.items))) ts
@@ -114,10 +116,10 @@ clauses_close {d} p b m cs k ts us w h q = go p (subst (λ z. Passes ts (item (s
     go curly q = goes q refl refl
 
 pub no_clause : {d : Dialect} (p : Bracket) (b : ℕ) (m : tree.Member) (cs : tree.Clauses) (k : Frames) (ts : Left) → first_lexeme ts.items ≢ Some keyword_for → first_lexeme ts.items ≢ Some keyword_if → first_lexeme ts.items ≢ Some (closing_bracket p) → Sticks d (stands (clauses_read p b m cs) k) ts ts
-no_clause p b m cs k ts a i c = stops (stands (clauses_read p b m cs) k) ts refl refl (λ x xs w. ap (λ o. else_state (to k o) None) (other _ _ keyword_for x.lexeme (refl, refl) (not_next ts x xs keyword_for a w) ∙ other _ _ keyword_if x.lexeme (refl, refl) (not_next ts x xs keyword_if i w) ∙ other _ None (closing_bracket p) x.lexeme (plain_closing p) (not_next ts x xs (closing_bracket p) c w)))
+no_clause p b m cs k ts a i c = stops (stands (clauses_read p b m cs) k) ts refl refl (λ x xs w. ap (λ o. else_state (to k o) None) (other _ _ keyword_for x.lexeme (refl, refl) (not_next ts x xs keyword_for a w) ∙ other _ _ keyword_if x.lexeme (refl, refl) (not_next ts x xs keyword_if i w) ∙ other _ None (closing_bracket p) x.lexeme (plain_close p) (not_next ts x xs (closing_bracket p) c w)))
 
 pub clause_more : {X : Type 0} (c : tree.Clause) (h : X → tree.Clause) (xs : List X) (x : X) → clauses_of c h (xs ++ x ∷ []) ≡ tree.and_clause (clauses_of c h xs) (h x)
-clause_more c h xs x = fold_push (λ cs y. tree.and_clause cs (h y)) (tree.and_clause tree.no_clauses c) xs x
+clause_more c h xs x = fold-append (λ cs y. tree.and_clause cs (h y)) (tree.and_clause tree.no_clauses c) xs (x ∷ [])
 
 -- the same where it is known only that members stand there
 pub list_goes_on_with : {d : Dialect} (k : Unbracketed) (n : ℕ) (ms : tree.Members) (e f : ℕ) (ts : Left) → ms ≢ tree.none → level_of (kind_within k) ≡ n → begins_test ts.items ≡ true → Goes d (behind_comma k ms f e) ts (wants n (one_at k ms f (start ts.items))) ts

@@ -1,5 +1,6 @@
 -- Steps of the machine in loads.
 use Rattle.std.proofs.Common.{◌≡◌, ◌≢◌, ℕ, List, [], ◌∷◌, ◌++◌, Option, Some, None, Bool, true, false, not, nat_eq, cond, refl, ap, sym, ◌∙◌, length}
+use Rattle.std.proofs.lemmas.List.Sums.{fold-append}
 use Rattle.starlark_place.specs.Place.{Extent}
 use Rattle.starlark_lexer.specs.Items.{Lexeme, Item, item, identifier, string, comma, equal, opening_round, closing_round}
 use Rattle.starlark_lexer.specs.declared.dialect.Dialect.{Dialect}
@@ -14,16 +15,12 @@ use Rattle.starlark_read.specs.Reads.{Left, first_lexeme, name_ahead, string_ahe
 use Rattle.starlark_grammar.specs.Sorts.{name_of, sort}
 use Rattle.starlark_grammar.specs.Spans.{stretch}
 use Rattle.starlark_grammar.specs.Verdicts.{Broken, begins_equal}
-use Rattle.starlark_read.proofs.Exits.{broken, goes, goes_past, not_next, state_is, stops}
-use Rattle.starlark_read.proofs.Gathering.{fold_push}
+use Rattle.starlark_read.proofs.Exits.{broken, goes, goes_past, not_next, state_is, stops, nameless}
 use Rattle.starlark_grammar.proofs.Sorts.{same_sort}
 
 -- no text of a literal, and no name, is next
 textless : (ts : Left) (x : Item) (xs : List Item) → string_ahead ts.items ≡ None → ts.items ≡ x ∷ xs → string_of x.lexeme ≡ None
 textless ts x xs h q = sym (ap string_ahead q) ∙ h
-
-nameless : (ts : Left) (x : Item) (xs : List Item) → name_ahead ts.items ≡ None → ts.items ≡ x ∷ xs → name_of x.lexeme ≡ None
-nameless ts x xs h q = sym (ap name_ahead q) ∙ h
 
 pub no_load_opening : {d : Dialect} (p : ℕ) (k : Line) (ts : Left) → first_lexeme ts.items ≢ Some opening_round → Sticks d (load_opens p k) ts ts
 no_load_opening p k ts h = stops (load_opens p k) ts refl refl (λ x xs q. here x.lexeme x.begin x.end (not_next ts x xs opening_round h q))
@@ -105,7 +102,7 @@ no_symbol_end p m ss s k ts c h = stops (load_behind p m ss s k) ts refl refl (�
 module _ {X : Type 0} (f : X → Symbol × Option Extent) where
   -- one more
   pub symbol_more : (xs ys : List X) (x : X) (s : Symbol) (c : Option Extent) → ys ≡ xs ++ x ∷ [] → f x ≡ (s, c) → symbols_of f ys ≡ add_symbol (symbols_of f xs) s c
-  symbol_more xs ys x s c e h = ap (symbols_of f) e ∙ fold_push (λ ss y. add_symbol ss (f y).0 (f y).1) no_symbols xs x ∙ ap (λ z. add_symbol (symbols_of f xs) z.0 z.1) h
+  symbol_more xs ys x s c e h = ap (symbols_of f) e ∙ fold-append (λ ss y. add_symbol ss (f y).0 (f y).1) no_symbols xs (x ∷ []) ∙ ap (λ z. add_symbol (symbols_of f xs) z.0 z.1) h
 
   pub symbol_and_comma : (xs ys : List X) (x : X) (s : Symbol) (c e : Extent) → ys ≡ xs ++ x ∷ [] → f x ≡ (s, Some c) → c ≡ e → symbols_of f ys ≡ add_symbol (symbols_of f xs) s (Some e)
   symbol_and_comma xs ys x s c e w h q = symbol_more xs ys x s (Some c) w h ∙ ap (λ z. add_symbol (symbols_of f xs) s (Some z)) q

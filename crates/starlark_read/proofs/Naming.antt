@@ -1,21 +1,21 @@
 -- Steps of the machine among the parameters of a lambda.
-use Rattle.std.proofs.Common.{◌≡◌, ◌≢◌, ℕ, ◌∷◌, List, Option, Some, None, MatchOption, string_bytes, Bool, refl, ap, sym, subst, ◌∙◌}
+use Rattle.std.proofs.Common.{◌≡◌, ◌≢◌, ℕ, List, Option, Some, None, MatchOption, string_bytes, Bool, refl, ap, sym, subst, ◌∙◌}
 use Rattle.std.specs.declared.string.String.{String}
 use Rattle.starlark_place.specs.Place.{Extent}
 use Rattle.starlark_place.specs.declared.pos.Spanned.{Spanned}
-use Rattle.starlark_lexer.specs.Items.{Item, item, identifier, colon, equal, slash, star, star_star}
+use Rattle.starlark_lexer.specs.Items.{item, identifier, colon, equal, slash, star, star_star}
 use Rattle.starlark_lexer.specs.declared.dialect.Dialect.{Dialect}
 use Rattle.starlark_ast.specs.Tree as tree
 use Rattle.starlark_grammar.specs.Nodes.{start}
 use Rattle.starlark_grammar.specs.Sorts.{name_of}
 use Rattle.starlark_grammar.specs.Spans.{stretch}
-use Rattle.starlark_grammar.specs.Points.{before_body, a_parameter, body, member, member_wanted, member_read, star_read, stars_read, name_read, Outcome, on_some, first_at}
+use Rattle.starlark_grammar.specs.Points.{before_body, a_parameter, body, member, member_wanted, member_read, star_read, stars_read, name_read, first_at}
 use Rattle.starlark_grammar.specs.Frames.{Frames, inside, State, stands, wants}
 use Rattle.starlark_grammar.specs.Machine.{goes as to, else_state}
 use Rattle.starlark_read.specs.Reads.{Left, first_lexeme, name_ahead, Passes, Goes, Sticks}
 use Rattle.starlark_grammar.proofs.Steps.{at_token}
-use Rattle.starlark_read.proofs.Exits.{goes, runs_as, state_is, stops, not_next}
-use Rattle.starlark_read.proofs.Gathering.{other, member_as}
+use Rattle.starlark_read.proofs.Exits.{goes, runs_as, state_is, stops, not_next, nameless}
+use Rattle.starlark_read.proofs.Gathering.{other, member_as, nothing_there}
 
 pub slash_read : {d : Dialect} (b : ℕ) (ms : tree.Members) (t : Bool) (e f : ℕ) (k : Frames) (ts us : Left) → Passes ts (item (start ts.items) slash us.last) us → Goes d (stands (member_wanted (before_body b) ms t e f) k) ts (stands (member_read (before_body b) (tree.more ms (tree.slash (stretch (start ts.items) us.last))) us.last (first_at ms f (start ts.items))) k) us
 slash_read b ms t e f k ts us p = goes p refl refl
@@ -29,30 +29,23 @@ stars_begin b ms t e f k ts us p = goes p refl refl
 pub name_begins : {d : Dialect} (b : ℕ) (ms : tree.Members) (t : Bool) (e f : ℕ) (k : Frames) (n : _) (ts us : Left) → Passes ts (item (start ts.items) (identifier n) us.last) us → Goes d (stands (member_wanted (before_body b) ms t e f) k) ts (stands (name_read b ms (first_at ms f (start ts.items)) n (start ts.items) us.last) k) us
 name_begins b ms t e f k n ts us p = goes p refl refl
 
-no_name : {A : Type 0} (o : Option A) (h : A → Option Outcome) (z : Option Outcome) → o ≡ None → on_some o h z ≡ z
-no_name None h z w = refl
-no_name (Some a) h z w = absurd (cc)
-
 -- no name is next
-nameless : (ts : Left) (x : Item) (xs : _) → name_ahead ts.items ≡ None → ts.items ≡ x ∷ xs → name_of x.lexeme ≡ None
-nameless ts x xs h q = sym (ap name_ahead q) ∙ h
-
 pub no_parameter : {d : Dialect} (b : ℕ) (ms : tree.Members) (t : Bool) (e f : ℕ) (k : Frames) (ts : Left) → first_lexeme ts.items ≢ Some colon → first_lexeme ts.items ≢ Some slash → first_lexeme ts.items ≢ Some star → first_lexeme ts.items ≢ Some star_star → name_ahead ts.items ≡ None → Sticks d (stands (member_wanted (before_body b) ms t e f) k) ts ts
-no_parameter b ms t e f k ts c s a aa n = stops (stands (member_wanted (before_body b) ms t e f) k) ts refl refl (λ x xs q. ap (λ o. else_state (to k o) None) (other _ _ colon x.lexeme (refl, refl) (not_next ts x xs colon c q) ∙ other _ _ slash x.lexeme (refl, refl) (not_next ts x xs slash s q) ∙ other _ _ star x.lexeme (refl, refl) (not_next ts x xs star a q) ∙ other _ _ star_star x.lexeme (refl, refl) (not_next ts x xs star_star aa q) ∙ no_name (name_of x.lexeme) _ None (nameless ts x xs n q)))
+no_parameter b ms t e f k ts c s a aa n = stops (stands (member_wanted (before_body b) ms t e f) k) ts refl refl (λ x xs q. ap (λ o. else_state (to k o) None) (other _ _ colon x.lexeme (refl, refl) (not_next ts x xs colon c q) ∙ other _ _ slash x.lexeme (refl, refl) (not_next ts x xs slash s q) ∙ other _ _ star x.lexeme (refl, refl) (not_next ts x xs star a q) ∙ other _ _ star_star x.lexeme (refl, refl) (not_next ts x xs star_star aa q) ∙ nothing_there (name_of x.lexeme) _ None (nameless ts x xs n q)))
 
 -- behind `*`
 pub starred_read : {d : Dialect} (b : ℕ) (ms : tree.Members) (f g h : ℕ) (k : Frames) (n : _) (ts us : Left) → Passes ts (item (start ts.items) (identifier n) us.last) us → Goes d (stands (star_read b ms f g h) k) ts (stands (member_read (before_body b) (tree.more ms (tree.parameter tree.starred n (stretch (start ts.items) us.last) tree.untyped tree.absent (stretch g us.last))) us.last f) k) us
 starred_read b ms f g h k n ts us p = goes p refl refl
 
 pub star_alone : {d : Dialect} (b : ℕ) (ms : tree.Members) (f g h : ℕ) (k : Frames) (ts : Left) → name_ahead ts.items ≡ None → Goes d (stands (star_read b ms f g h) k) ts (stands (member_read (before_body b) (tree.more ms (tree.no_args (stretch g h))) h f) k) ts
-star_alone b ms f g h k ts n = runs_as (at_token (stands (star_read b ms f g h) k) (stands (member_read (before_body b) (tree.more ms (tree.no_args (stretch g h))) h f) k) ts.items refl refl (λ x xs q. (ap (λ o. else_state (to k o) None) (no_name (name_of x.lexeme) _ _ (nameless ts x xs n q)), refl)))
+star_alone b ms f g h k ts n = runs_as (at_token (stands (star_read b ms f g h) k) (stands (member_read (before_body b) (tree.more ms (tree.no_args (stretch g h))) h f) k) ts.items refl refl (λ x xs q. (ap (λ o. else_state (to k o) None) (nothing_there (name_of x.lexeme) _ _ (nameless ts x xs n q)), refl)))
 
 -- behind `**`
 pub double_starred_read : {d : Dialect} (b : ℕ) (ms : tree.Members) (f g : ℕ) (k : Frames) (n : _) (ts us : Left) → Passes ts (item (start ts.items) (identifier n) us.last) us → Goes d (stands (stars_read b ms f g) k) ts (stands (member_read (before_body b) (tree.more ms (tree.parameter tree.double_starred n (stretch (start ts.items) us.last) tree.untyped tree.absent (stretch g us.last))) us.last f) k) us
 double_starred_read b ms f g k n ts us p = goes p refl refl
 
 pub no_kwargs : {d : Dialect} (b : ℕ) (ms : tree.Members) (f g : ℕ) (k : Frames) (ts : Left) → name_ahead ts.items ≡ None → Sticks d (stands (stars_read b ms f g) k) ts ts
-no_kwargs b ms f g k ts n = stops (stands (stars_read b ms f g) k) ts refl refl (λ x xs q. ap (λ o. else_state (to k o) None) (no_name (name_of x.lexeme) _ None (nameless ts x xs n q)))
+no_kwargs b ms f g k ts n = stops (stands (stars_read b ms f g) k) ts refl refl (λ x xs q. ap (λ o. else_state (to k o) None) (nothing_there (name_of x.lexeme) _ None (nameless ts x xs n q)))
 
 -- behind a name
 pub default_begins : {d : Dialect} (b : ℕ) (ms : tree.Members) (f : ℕ) (n : _) (g h : ℕ) (k : Frames) (ts us : Left) → Passes ts (item (start ts.items) equal us.last) us → Goes d (stands (name_read b ms f n g h) k) ts (wants 12 (inside (member (before_body b) ms f g (a_parameter n (stretch g h))) k)) us

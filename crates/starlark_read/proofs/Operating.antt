@@ -14,21 +14,19 @@ use Rattle.starlark_grammar.specs.Machine.{tails, enter, goes_on, feed, step, mo
 use Rattle.starlark_grammar.specs.Runs.{ends, operates, met}
 use Rattle.starlark_read.specs.Reads.{Left, first_lexeme, grade_ahead, operator_of, operator_ahead, Passes, Goes, Sticks}
 use Rattle.starlark_grammar.proofs.Steps.{same}
+use Rattle.starlark_grammar.proofs.Reading.{eq_true}
 use Rattle.starlark_read.proofs.Exits.{◌>>◌, sticks, runs_as, stays_there, not_next, stops, goes}
 
 -- what goes on behind an operation of a level
 abbrev pub rest_of : ℕ → Frames → Frames
 rest_of n k = cond (associates n) (tail n k) k
 
-equal_to_itself : (n : ℕ) → nat_eq n n ≡ true
-equal_to_itself n = grind arith
-
 -- an operator of one token
 pub enters : {d : Dialect} (q : tree.Expr) (e : ℕ) (k : Frames) (o : BinOp) (n : ℕ) {x : Item} {ts us : Left} → Passes ts x us → suffix x.lexeme ≡ Some (joined o) → below o ≡ n → Goes d (has q e (tail (suc n) k)) ts (wants n (inside (operand q o) (rest_of (suc n) k))) us
 enters {d} q e k o n {x} {ts} {us} p s w = subst (λ m. Goes d (has q e (tail (suc m) k)) ts (wants m (inside (operand q o) (rest_of (suc m) k))) us) w (goes p nothing on)
   where
     same_level : nat_eq (suc (below o)) (suc (below o)) ≡ true
-    same_level = equal_to_itself (suc (below o))
+    same_level = eq_true (suc (below o))
 
     nothing : met (has q e (tail (suc (below o)) k)) (Some x.lexeme) ≡ None
     nothing = ap (λ z. cond (operates z (suc (below o))) None (ends k q e (Some x.lexeme))) s ∙ ap (λ b. cond b None (ends k q e (Some x.lexeme))) same_level

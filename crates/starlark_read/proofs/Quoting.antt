@@ -10,14 +10,14 @@ use Rattle.starlark_grammar.specs.Nodes.{start}
 use Rattle.starlark_grammar.specs.Sorts.{is_some, name_of, text_of}
 use Rattle.starlark_grammar.specs.Spans.{stretch}
 use Rattle.starlark_grammar.specs.Tables.{conversion, doubled, field_format}
-use Rattle.starlark_grammar.specs.Points.{field, piece_wanted, letter_wanted, letter_read, Outcome, reach, on_some}
+use Rattle.starlark_grammar.specs.Points.{field, piece_wanted, letter_wanted, letter_read, reach, on_some}
 use Rattle.starlark_grammar.specs.Frames.{Frames, inside, State, has, stands, wants}
 use Rattle.starlark_grammar.specs.Machine.{goes as to, else_state}
 use Rattle.starlark_grammar.specs.Verdicts.{Broken, converts, some_converts}
 use Rattle.starlark_read.specs.Reads.{Left, first_lexeme, Passes, Goes, Sticks, Answers}
 use Rattle.starlark_read.specs.Gathered.{text_ahead, converted, conversion_ahead}
 use Rattle.starlark_read.proofs.Exits.{goes, goes_past, broken, state_is, stops, not_next}
-use Rattle.starlark_read.proofs.Gathering.{other}
+use Rattle.starlark_read.proofs.Gathering.{other, nothing_there}
 
 pub text_read : {d : Dialect} (b : ℕ) (f t : List ℕ) (ms : tree.Members) (k : Frames) (ts us : Left) → Passes ts (item (start ts.items) (fstring_text t) us.last) us → Goes d (stands (piece_wanted b f ms) k) ts (stands (piece_wanted b (f ++ doubled t) ms) k) us
 text_read b f t ms k ts us p = goes p refl refl
@@ -28,12 +28,8 @@ field_begins b f ms k ts us p = goes p refl refl
 pub string_ends : {d : Dialect} (b : ℕ) (f : List ℕ) (ms : tree.Members) (k : Frames) (ts us : Left) → Passes ts (item (start ts.items) fstring_end us.last) us → Goes d (stands (piece_wanted b f ms) k) ts (has (tree.fstring f (stretch b us.last) ms (stretch b us.last) (stretch b us.last)) us.last k) us
 string_ends b f ms k ts us p = goes p refl refl
 
-no_text : {A : Type 0} (o : Option A) (h : A → Option Outcome) (z : Option Outcome) → o ≡ None → on_some o h z ≡ z
-no_text None h z w = refl
-no_text (Some a) h z w = absurd (cc)
-
 pub no_piece : {d : Dialect} (b : ℕ) (f : List ℕ) (ms : tree.Members) (k : Frames) (ts : Left) → text_ahead ts.items ≡ None → first_lexeme ts.items ≢ Some fstring_expr_start → first_lexeme ts.items ≢ Some fstring_end → Sticks d (stands (piece_wanted b f ms) k) ts ts
-no_piece b f ms k ts t a e = stops (stands (piece_wanted b f ms) k) ts refl refl (λ x xs q. ap (λ o. else_state (to k o) None) (no_text (text_of x.lexeme) _ _ (sym (ap text_ahead q) ∙ t) ∙ other _ _ fstring_expr_start x.lexeme (refl, refl) (not_next ts x xs fstring_expr_start a q) ∙ other _ None fstring_end x.lexeme (refl, refl) (not_next ts x xs fstring_end e q)))
+no_piece b f ms k ts t a e = stops (stands (piece_wanted b f ms) k) ts refl refl (λ x xs q. ap (λ o. else_state (to k o) None) (nothing_there (text_of x.lexeme) _ _ (sym (ap text_ahead q) ∙ t) ∙ other _ _ fstring_expr_start x.lexeme (refl, refl) (not_next ts x xs fstring_expr_start a q) ∙ other _ None fstring_end x.lexeme (refl, refl) (not_next ts x xs fstring_end e q)))
 
 -- a field
 pub field_ends : {d : Dialect} (b : ℕ) (f : List ℕ) (ms : tree.Members) (q : tree.Expr) (e : ℕ) (k : Frames) (ts us : Left) → Passes ts (item (start ts.items) fstring_expr_end us.last) us → Goes d (has q e (inside (field b f ms) k)) ts (stands (piece_wanted b (f ++ field_format) (tree.more ms (tree.item q))) k) us

@@ -1,5 +1,6 @@
 -- Statements in a row.
 use Rattle.std.proofs.Common.{◌≡◌, ◌≢◌, subst, ℕ, List, [], ◌∷◌, ◌++◌, Some, None, Bool, true, false, length, fold, refl, ap, sym, ◌∙◌}
+use Rattle.std.proofs.lemmas.List.Sums.{fold-append}
 use Rattle.std.specs.Bool.{MatchBool}
 use Rattle.starlark_lexer.specs.Items.{Lexeme, Item, item, dedent, newline, semicolon}
 use Rattle.starlark_lexer.specs.declared.dialect.Dialect.{Dialect}
@@ -15,7 +16,6 @@ use Rattle.starlark_grammar.specs.Nodes.{block_of, first_begin, start}
 use Rattle.starlark_read.specs.Reads.{Left, first_lexeme, Passes, Goes, Sticks}
 use Rattle.starlark_grammar.specs.Spans.{stretch}
 use Rattle.starlark_read.proofs.Exits.{◌>>◌, goes, not_next, renamed, same_end, state_is, stops}
-use Rattle.starlark_read.proofs.Gathering.{fold_push}
 use Rattle.starlark_grammar.proofs.Steps.{stays_at}
 
 module _ {X : Type 0} (f : X → Statement) where
@@ -31,7 +31,7 @@ module _ {X : Type 0} (f : X → Statement) where
 
   -- one more
   pub statement_more : (xs ys : List X) (x : X) → ys ≡ xs ++ x ∷ [] → sequence_of f ys ≡ add_statement (sequence_of f xs) (f x)
-  statement_more xs ys x w = ap (sequence_of f) w ∙ fold_push (λ ss y. add_statement ss (f y)) no_statements xs x
+  statement_more xs ys x w = ap (sequence_of f) w ∙ fold-append (λ ss y. add_statement ss (f y)) no_statements xs (x ∷ [])
 
 -- a line ends, behind a semicolon or not
 pub row_ends : {d : Dialect} (s : Statement) (done : Sequence) (k : Rows) (ts us vs : Left) (b : Bool) → MatchBool b (Passes ts (item (start ts.items) semicolon us.last) us) ((us ≡ ts) × (first_lexeme ts.items ≢ Some semicolon)) → Passes us (item (start us.items) newline vs.last) vs → Goes d (behind_small s (line done k)) ts (end_row k (block_of (add_statement done s) vs.last) vs.last) vs

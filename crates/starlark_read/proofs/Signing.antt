@@ -8,14 +8,14 @@ use Rattle.starlark_grammar.specs.Events.{Event, typed}
 use Rattle.starlark_grammar.specs.Nodes.{start, named}
 use Rattle.starlark_grammar.specs.Spans.{stretch}
 use Rattle.starlark_grammar.specs.Sorts.{name_of}
-use Rattle.starlark_grammar.specs.Frames.{Head, Suites, of_def, param_type, param_default, result_type, spot, State, wants, has, wants_colon, def_opens, wants_param, behind_star, behind_stars, behind_name, behind_param, wants_result}
+use Rattle.starlark_grammar.specs.Frames.{Head, of_def, param_type, param_default, result_type, spot, State, wants, has, wants_colon, def_opens, wants_param, behind_star, behind_stars, behind_name, behind_param, wants_result}
 use Rattle.starlark_grammar.specs.Machine.{move, step}
 use Rattle.starlark_grammar.specs.Runs.{finish, met, note, run}
 use Rattle.starlark_grammar.specs.Verdicts.{answer, broken_at, judge}
 use Rattle.starlark_read.specs.Reads.{Left, first_lexeme, name_ahead, type_read, IsType, Passes, Goes, Sticks}
 use Rattle.starlark_read.specs.Signature.{IsWhole, behind_type}
 use Rattle.starlark_grammar.proofs.Steps.{arrive, runs, runs_end, at_token, same}
-use Rattle.starlark_read.proofs.Exits.{goes, goes_past, runs_as, same_end, state_is, stops, not_next, tokens_are}
+use Rattle.starlark_read.proofs.Exits.{goes, goes_past, runs_as, same_end, state_is, stops, not_next, tokens_are, nameless}
 
 -- a construct is met that breaks nothing, and no token is read
 pub past_event : {d : Dialect} (s u : State) (v : Event) (ts : Left) → ((x : Option Lexeme) → met s x ≡ Some v) → ((xs : List Item) → broken_at d v xs ≡ None) → ((x : Option Lexeme) → met u x ≡ None) → finish s ≡ finish u → ((x : Item) (xs : List Item) → ts.items ≡ x ∷ xs → step s x ≡ step u x) → Goes d s ts u ts
@@ -35,13 +35,6 @@ result_ends h ps t e ts w = state_is (past_event (has (type_read t) e (spot (res
     here : (y : Lexeme) (i j : ℕ) → move (has (type_read t) e (spot (result_type h ps))) y i j ≡ move (wants_colon (of_def h ps type_at_read)) y i j
     here colon i j = refl
     here _ i j = refl
-
-pub no_suite : {d : Dialect} (k : Suites) (ts : Left) → first_lexeme ts.items ≢ Some colon → Sticks d (wants_colon k) ts ts
-no_suite k ts n = stops (wants_colon k) ts refl refl (λ x xs q. here x.lexeme x.begin x.end (not_next ts x xs colon n q))
-  where
-    here : (y : Lexeme) (i j : ℕ) → y ≢ colon → move (wants_colon k) y i j ≡ None
-    here colon i j n = absurd (n refl)
-    here _ i j n = refl
 
 pub no_result : {d : Dialect} (h : Head) (ps : tree.Members) (ts : Left) → first_lexeme ts.items ≢ Some colon → first_lexeme ts.items ≢ Some minus_greater → Sticks d (wants_result h ps) ts ts
 no_result h ps ts n m = stops (wants_result h ps) ts refl refl (λ x xs q. here x.lexeme x.begin x.end (not_next ts x xs colon n q) (not_next ts x xs minus_greater m q))
@@ -68,9 +61,6 @@ no_param_end h ps ts n m = stops (behind_param h ps) ts refl refl (λ x xs q. he
     here _ i j n m = refl
 
 -- no name is next
-nameless : (ts : Left) (x : Item) (xs : List Item) → name_ahead ts.items ≡ None → ts.items ≡ x ∷ xs → name_of x.lexeme ≡ None
-nameless ts x xs h q = sym (ap name_ahead q) ∙ h
-
 pub no_param : {d : Dialect} (h : Head) (ps : tree.Members) (ts : Left) → first_lexeme ts.items ≢ Some closing_round → first_lexeme ts.items ≢ Some slash → first_lexeme ts.items ≢ Some star → first_lexeme ts.items ≢ Some star_star → name_ahead ts.items ≡ None → Sticks d (wants_param h ps) ts ts
 no_param h ps ts c s a b n = stops (wants_param h ps) ts refl refl (λ x xs q. here x.lexeme x.begin x.end (not_next ts x xs closing_round c q) (not_next ts x xs slash s q) (not_next ts x xs star a q) (not_next ts x xs star_star b q) (nameless ts x xs n q))
   where

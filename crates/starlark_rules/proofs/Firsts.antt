@@ -13,7 +13,7 @@ use Rattle.starlark_rulebook.specs.declared.rule.Rule.{Rule}
 use Rattle.starlark_rulebook.specs.Kept as kept
 use Rattle.starlark_rulebook.specs.Rules.{Finding, first_finding, first_of, listed}
 use Rattle.starlark_rulebook.specs.View.{maybe_finding}
-use Rattle.starlark_rules.proofs.Prefixes.{members_more}
+use Rattle.starlark_ast.proofs.Written.{members_more}
 use Rattle.starlark_rules.proofs.Within.{clauses_more}
 use Rattle.starlark_visit.proofs.Members.{behind, argument_as}
 

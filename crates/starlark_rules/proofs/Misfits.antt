@@ -14,7 +14,7 @@ use Rattle.starlark_rules.specs.Misfits.{Comes, Stops, list_members, path_text, 
 use Rattle.starlark_rulebook.specs.View.{type_fault_view}
 use Rattle.starlark_rules.specs.declared.types.Stop.{Stop}
 use Rattle.starlark_rules.specs.declared.types.Stop.TheVariants.{NoType, Memory}
-use Rattle.starlark_rules.proofs.Prefixes.{members_more}
+use Rattle.starlark_ast.proofs.Written.{members_more}
 
 -- ---- the same fault
 

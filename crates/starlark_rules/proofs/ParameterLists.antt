@@ -18,7 +18,8 @@ use Rattle.starlark_rulebook.specs.Parameters.{is_starred, is_mark, is_slash, pa
 use Rattle.starlark_rules.specs.ParameterKinds.{Param, param, params_before, params_of, mode_of, kind_of, positional_count, positional_only_count, args_index, kwargs_index, indices_of}
 use Rattle.starlark_rules.specs.Tallies.{tally_of, with_member, kind_in, param_of}
 use Rattle.starlark_rules.proofs.Converting.{none_first, none_second}
-use Rattle.starlark_rules.proofs.Prefixes.{count_members, members_more}
+use Rattle.starlark_ast.proofs.Written.{members_more}
+use Rattle.starlark_rules.proofs.Prefixes.{count_members}
 
 one_more : {A : Type 0} (xs : List A) (x : A) → length (xs ++ (x ∷ [])) ≡ length xs + 1
 one_more xs x = length-append xs (x ∷ [])

@@ -1,10 +1,10 @@
 -- Lists of members that are built at their end, over a list that is read from its beginning.
 use Rattle.std.proofs.Common.{ℕ, ◌+◌, ◌<◌, ◌≡◌, Bool, true, cond, refl, sym, ap, ◌∙◌, List, [], ◌∷◌, length, take, drop, take-append-drop, get_or, Option, Some, None, fold, ◌≤◌, arith}
-use Rattle.std.proofs.lemmas.List.{take_more}
 use Rattle.starlark_place.specs.Place.{merged_into}
 use Rattle.std.proofs.lemmas.List.Sums.{fold-append}
 use Rattle.starlark_ast.specs.Tree.{Member, Members, more, none}
 use Rattle.starlark_ast.specs.View.{members}
+use Rattle.starlark_ast.proofs.Written.{members_more}
 use Rattle.starlark_rulebook.specs.Rules.{first_of}
 use Rattle.starlark_rulebook.specs.Calls.{any, first_call_fault, argument_fault}
 use Rattle.starlark_rulebook.specs.Targets.{targets_fault, member_fault}
@@ -28,9 +28,6 @@ target_faults none = refl
 target_faults (more ms m) = ap (λ o. first_of o (member_fault m)) (target_faults ms)
 
 -- one more of a list
-pub members_more : {X : Type 0} (h : X → Member) (xs : List X) (i : ℕ) (x : X) → i < length xs → x ≡ get_or xs i x → members h (take (i + 1) xs) ≡ more (members h (take i xs)) (h x)
-members_more h xs i x below is = ap (members h) (take_more xs i x below) ∙ fold-append (λ ms y. more ms (h y)) none (take i xs) (get_or xs i x ∷ []) ∙ ap (λ y. more (members h (take i xs)) (h y)) (sym is)
-
 pub any_more : {X : Type 0} (f : Member → Bool) (h : X → Member) (xs : List X) (i : ℕ) (x : X) → i < length xs → x ≡ get_or xs i x → any f (members h (take (i + 1) xs)) ≡ cond (f (h x)) true (any f (members h (take i xs)))
 any_more f h xs i x below is = ap (any f) (members_more h xs i x below is)
 

@@ -1,8 +1,7 @@
 -- One of several: it is smaller than all of them, and what it breaks comes behind what those before it break.
-use Rattle.std.proofs.Common.{ℕ, suc, ◌+◌, ◌<◌, ◌≤◌, ◌≡◌, sym, ap, ◌∙◌, List, [], ◌∷◌, length, take, drop, take-append-drop, get_or, fold, refl, arith}
+use Rattle.std.proofs.Common.{ℕ, suc, ◌+◌, ◌<◌, ◌≡◌, sym, ap, ◌∙◌, List, [], ◌∷◌, length, take, drop, take-append-drop, get_or, fold, refl, arith}
 use Rattle.std.proofs.lemmas.List.{take_more}
 use Rattle.std.proofs.lemmas.List.Sums.{fold-append}
-use Rattle.starlark_place.specs.Place.{Extent}
 use Rattle.starlark_place.specs.declared.pos.Spanned.{Spanned}
 use Rattle.starlark_lexer.specs.declared.dialect.Dialect.{Dialect}
 use Rattle.starlark_ast.specs.Access.{argument_expr}
@@ -11,7 +10,7 @@ use Rattle.starlark_ast.specs.Tree.{Member, Clause, Clauses}
 use Rattle.starlark_ast.specs.View.{members, expr_at, argument_at}
 use Rattle.starlark_ast.specs.declared.ast.ArgumentP.{ArgumentP}
 use Rattle.starlark_rulebook.specs.Late as late
-use Rattle.starlark_rules.proofs.Prefixes.{members_more}
+use Rattle.starlark_ast.proofs.Written.{members_more}
 use Rattle.starlark_visit.proofs.Members.{argument_as, behind, more_clauses, more_sizes}
 use Rattle.starlark_visit.specs.Sizes.{member_size, sizes, clause_size, clause_sizes}
 

@@ -7,7 +7,7 @@ use Rattle.starlark_script.specs.Script.{Command, IsCut, IsWhole, front, with_te
 use Rattle.starlark_script.specs.Script.IsCut.{in_line, in_text}
 use Rattle.starlark_script.specs.declared.command.Head.{Head}
 use Rattle.starlark_script.proofs.Lines.{No, line_found}
-use Rattle.starlark_script.proofs.Taking.{line_before, later_line, too_long, front_is}
+use Rattle.starlark_script.proofs.Taking.{line_before, later_line, too_long, front_is, fewer}
 
 behind_none : (b : ℕ) (o : Option (List ℕ × List ℕ)) → behind b o ≡ None → o ≡ None
 behind_none b None h = refl
@@ -73,9 +73,6 @@ by_line xs (Some p) h = elim (cases_Bool (nat_lt 64 (length p.0))) [
 pub cut_or_whole : (xs : List ℕ) → IsCut xs ⊎ IsWhole xs
 cut_or_whole xs = by_line xs (first_line xs) refl
 
-few : (m n : ℕ) → m < n → nat_lt m n ≡ true
-few m n h = grind (arith, nat_tests)
-
 front_first : (xs w rest : List ℕ) → first_line xs ≡ Some (w, rest) → nat_lt 64 (length w) ≡ false → front xs ≡ with_text (command_of w) rest
 front_first xs w rest h l = rw (front_is xs (rw append-nil at (some_bytes xs w rest [] h)), h, l) refl
 
@@ -88,5 +85,5 @@ none_asks (x ∷ xs) rest c h e = let d : no_command ≡ asking c rest = rw h at
 pub cut_asks_nothing : (xs rest : List ℕ) (c : Command) → IsCut xs → front xs ≡ asking c rest → ⊥
 cut_asks_nothing xs rest c (in_line bs h l) e = none_asks bs rest c h e
 cut_asks_nothing xs rest c (in_text bs line more d h l o s) e =
-    let f : front bs ≡ no_command = rw (front_first bs line more h (grind (arith, nat_tests)), o, few (length more) (bytes_of d) s) refl in
+    let f : front bs ≡ no_command = rw (front_first bs line more h (grind (arith, nat_tests)), o, fewer (length more) (bytes_of d) s) refl in
     let d : no_command ≡ asking c rest = sym f ∙ e in cc

@@ -15,7 +15,7 @@ pub no_more : (x : ℕ) (bs : List ℕ) (b : ℕ) → No x bs → (b ≡ x → �
 no_more x [] b h n = (n, tt)
 no_more x (c ∷ bs) b h n = (h.0, no_more x bs b h.1 n)
 
-other : (a b : ℕ) → (a ≡ b → ⊥) → nat_eq a b ≡ false
+pub other : (a b : ℕ) → (a ≡ b → ⊥) → nat_eq a b ≡ false
 other a b h = grind (arith, nat_tests)
 
 pub words_split : (w rest : List ℕ) → No 32 w → words (w ++ 32 ∷ rest) ≡ w ∷ words rest

@@ -15,7 +15,7 @@ use Rattle.starlark_script.specs.declared.command.Head.TheVariants as heads
 use Rattle.starlark_script.specs.declared.reading.Line.TheVariants as lines
 use Rattle.starlark_script.specs.declared.reading.Taken.{Taken}
 use Rattle.starlark_script.specs.declared.reading.Taken.TheVariants as texts
-use Rattle.starlark_script.proofs.Lines.{No, no_more, line_found, line_none}
+use Rattle.starlark_script.proofs.Lines.{No, no_more, line_found, line_none, other}
 
 -- the first line behind bytes without a line feed
 abbrev pub onto : List ℕ → Option (List ℕ × List ℕ) → Option (List ℕ × List ℕ)
@@ -30,9 +30,6 @@ onto_none : (o : Option (List ℕ × List ℕ)) → o ≡ onto [] o
 onto_none None = refl
 onto_none (Some p) = refl
 
-not_equal : (a b : ℕ) → (a ≡ b → ⊥) → nat_eq a b ≡ false
-not_equal a b h = grind (arith, nat_tests)
-
 pub longer : (n : ℕ) → 64 < n → nat_lt 64 n ≡ true
 longer n h = grind (arith, nat_tests)
 
@@ -41,7 +38,7 @@ short n h = grind (arith, nat_tests)
 
 pub later_line : (w rest : List ℕ) → No 10 w → first_line (w ++ rest) ≡ onto w (first_line rest)
 later_line [] rest h = onto_none (first_line rest)
-later_line (b ∷ w) rest h = rw (not_equal b 10 h.0) (ap (behind b) (later_line w rest h.1) ∙ behind_onto b w (first_line rest))
+later_line (b ∷ w) rest h = rw (other b 10 h.0) (ap (behind b) (later_line w rest h.1) ∙ behind_onto b w (first_line rest))
 
 pub too_long : (w : List ℕ) (o : Option (List ℕ × List ℕ)) → 64 < length w → after_line (onto w o) ≡ no_command
 too_long w None l = refl
@@ -170,7 +167,7 @@ cut_in_text (Some xs) (Some ms) (Some ys) n h buf l c i s =
 enough : (m n : ℕ) → n ≤ m → nat_lt m n ≡ false
 enough m n h = grind (arith, nat_tests)
 
-fewer : (m n : ℕ) → m < n → nat_lt m n ≡ true
+pub fewer : (m n : ℕ) → m < n → nat_lt m n ≡ true
 fewer m n h = grind (arith, nat_tests)
 
 whole : (xs : List ℕ) (new : Option (List ℕ)) (h : Head) (bs : List ℕ) → ((rest : List ℕ) × (xs ≡ bs ++ rest) × (length bs ≡ bytes_of h) × (new ≡ Some rest))

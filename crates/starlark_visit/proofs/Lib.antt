@@ -1,5 +1,6 @@
 pub mod Below
 pub mod Children
+pub mod GoesOn
 pub mod Layers
 pub mod Lifted
 pub mod Members

@@ -5,10 +5,8 @@ use Rattle.std.proofs.Common.{◌≡◌, refl, sym, ap, ◌∙◌, subst, List, 
 use Rattle.std.specs.Fn.{Called, Mut}
 use denote.Param.Always.{always_mut, mut_next}
 use Rattle.starlark_ast.specs.Calls.{CalledOn, CallsAll, CallsEach, CallsUntil, StopsAtErr}
+use Rattle.starlark_visit.proofs.GoesOn.{err_not_ok}
 use Rattle.starlark_visit.proofs.Until.{until_stop, until_then}
-
-err_not_ok : {E : Type 0} {e : E} {r : Result (Unit {0}) E} → r ≡ Err e → r ≡ Ok tt → ⊥
-err_not_ok h k = cc
 
 pub singles : {A : Type 0} (xs : List A) → flat_map (λ x. x ∷ []) xs ≡ xs
 singles [] = refl

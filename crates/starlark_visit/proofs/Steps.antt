@@ -3,10 +3,8 @@ use Rattle.std.proofs.Common.{◌≡◌, refl, sym, ap, ◌∙◌, subst, List, 
 use Rattle.std.specs.Borrow.{Bor}
 use Rattle.std.specs.Fn.{Mut}
 use Rattle.starlark_ast.specs.Calls.{CalledOn, CallsUntil, StopsAtErr, lent}
+use Rattle.starlark_visit.proofs.GoesOn.{ok_not_err}
 use Rattle.starlark_visit.specs.Steps.{StepsUntil, StepsWhile}
-
-ok_not_err : {E : Type 0} {e : E} {r : Result (Unit {0}) E} → r ≡ Ok tt → r ≡ Err e → ⊥
-ok_not_err h k = cc
 
 pub map_same : {A : Type 0} (xs : List A) → map (λ x. x) xs ≡ xs
 map_same [] = refl

@@ -1,18 +1,16 @@
 -- What a closure may be called at: a front of the places, and those behind it.
 use Rattle.std.proofs.lemmas.List.{drop_more}
-use Rattle.std.proofs.Common.{◌≡◌, refl, sym, ap, ◌∙◌, subst, ℕ, ◌+◌, ◌<◌, length, drop, get_or, flat_map, List, [], ◌∷◌, ◌++◌, inl, inr, Result, Ok, Err}
+use Rattle.std.proofs.Common.{◌≡◌, refl, sym, ap, ◌∙◌, subst, ℕ, ◌+◌, ◌<◌, length, drop, get_or, flat_map, List, [], ◌∷◌, ◌++◌, inl, inr, Result, Ok}
 use Rattle.std.specs.Fn.{Called, Mut}
 use denote.Param.Always.{always_mut, mut_next}
 use Rattle.starlark_ast.specs.Calls.{CalledOn, CallsUntil, StopsAtErr}
+use Rattle.starlark_visit.proofs.GoesOn.{err_not_ok}
 use Rattle.starlark_visit.specs.Takes.{MayCall, Takes, TakesWhile}
 
 -- P holds at each of these
 abbrev pub AllOf : {A : Type 0} → (A → Type 0) → List A → Type 0
 AllOf P [] = Unit {0}
 AllOf P (x ∷ xs) = P x × AllOf P xs
-
-err_not_ok : {E : Type 0} {e : E} {r : Result (Unit {0}) E} → r ≡ Err e → r ≡ Ok tt → ⊥
-err_not_ok h k = cc
 
 module _ {F X A E : Type 0} (show : X → A) (g : Mut F (X × Unit {0}) (Result (Unit {0}) E)) where
   front : (xs ys : List A) (f : F) → TakesWhile show g f (xs ++ ys) → TakesWhile show g f xs

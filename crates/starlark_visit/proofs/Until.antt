@@ -4,6 +4,7 @@ use Rattle.std.proofs.lemmas.List.{flat_map_more, take_more, take-append-drop}
 use Rattle.std.proofs.Common.{flat_map, take, drop, get_or, length, ℕ, ◌+◌, ◌<◌, ◌≡◌, refl, sym, ap, ◌∙◌, subst, List, [], ◌∷◌, ◌++◌, inl, inr, Result, Ok, Err}
 use Rattle.std.specs.Fn.{Called, Mut}
 use Rattle.starlark_ast.specs.Calls.{StopsAtErr, CallsUntil}
+use Rattle.starlark_visit.proofs.GoesOn.{ok_not_err}
 
 module _ {F X A E : Type 0} (show : X → A) (g : Mut F (X × Unit {0}) (Result (Unit {0}) E)) where
   pub until_none : {f : F} {r : Result (Unit {0}) E} → r ≡ Ok tt → StopsAtErr show g f [] r f
@@ -29,9 +30,6 @@ module _ {F X A E : Type 0} (show : X → A) (g : Mut F (X × Unit {0}) (Result 
 
   pub until_at : {f last : F} {ys xs : List A} {r : Result (Unit {0}) E} → ys ≡ xs → StopsAtErr show g f xs r last → StopsAtErr show g f ys r last
   until_at {f} {last} {ys} {xs} {r} is h = subst (λ (zs : List A). StopsAtErr show g f zs r last) (sym is) h
-
-  ok_not_err : {e : E} {r : Result (Unit {0}) E} → r ≡ Ok tt → r ≡ Err e → ⊥
-  ok_not_err h k = cc
 
   -- calls that go on
   and_then : (xs ys : List A) (f mid last : F) (s r : Result (Unit {0}) E) → CallsUntil show g f xs s mid → s ≡ Ok tt → StopsAtErr show g mid ys r last → StopsAtErr show g f (xs ++ ys) r last

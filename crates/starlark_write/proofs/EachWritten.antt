@@ -3,9 +3,7 @@ use Rattle.std.proofs.Common.{◌≡◌, refl, sym, subst, List, [], ◌∷◌, 
 use Rattle.std.specs.Borrow.{MutBor}
 use Rattle.std.specs.Fn.{Called, Mut}
 use Rattle.starlark_write.specs.Writing.{WritesAll, WritesEach}
-
-nil_not_cons : {A : Type 0} {y : A} {ys : List A} → (y ∷ ys) ≡ [] → ⊥
-nil_not_cons h = cc
+use Rattle.starlark_write.proofs.Writes.{nil_not_cons}
 
 module _ {F A : Type 0} (g : Mut F (MutBor A × Unit {0}) (Unit {0} × (MutBor A × Unit {0}))) where
   pub each_none : {f : F} → WritesEach g f [] f []

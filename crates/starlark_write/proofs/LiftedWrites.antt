@@ -3,10 +3,8 @@ use Rattle.std.proofs.Common.{◌≡◌, refl, sym, ap, ◌∙◌, subst, List, 
 use Rattle.std.specs.Borrow.{MutBor}
 use Rattle.std.specs.Fn.{CalledAtMut, Mut}
 use denote.Param.Always.{always_mut, mut_next}
+use Rattle.starlark_visit.proofs.GoesOn.{err_not_ok}
 use Rattle.starlark_write.specs.Writing.{WritesAll, WritesEach, WritesUntil, WritesWhile}
-
-err_not_ok : {E : Type 0} {e : E} {r : Result (Unit {0}) E} → r ≡ Err e → r ≡ Ok tt → ⊥
-err_not_ok h k = cc
 
 module _ {F A : Type 0} (g : Mut F (MutBor A × Unit {0}) (Unit {0} × (MutBor A × Unit {0}))) where
   -- after calls it may be called still

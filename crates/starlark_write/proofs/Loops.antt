@@ -3,7 +3,7 @@ use Rattle.std.proofs.Math.ListN.{set}
 use Rattle.std.proofs.Math.Seq.{take-length}
 use Rattle.std.proofs.lemmas.Grind.{flat_map-append}
 use Rattle.std.proofs.lemmas.List.{drop-drop, flat_map_more, get_or-drop, take_more, take_more_set, take-append-le, drop-set-lt}
-use Rattle.std.proofs.Common.{ℕ, suc, ◌+◌, ◌<◌, ◌≡◌, refl, sym, ap, ◌∙◌, subst, List, [], ◌∷◌, ◌++◌, flat_map, map, take, drop, take-append-drop, length, get_or, length-set, append-nil, Result, Ok, Err, arith}
+use Rattle.std.proofs.Common.{ℕ, suc, ◌+◌, ◌<◌, ◌≡◌, refl, sym, ap, ◌∙◌, subst, List, [], ◌∷◌, ◌++◌, flat_map, take, drop, take-append-drop, length, get_or, length-set, append-nil, Result, Ok, Err, arith}
 use Rattle.std.specs.Borrow.{MutBor}
 use Rattle.std.specs.Fn.{Mut}
 use Rattle.starlark_write.specs.Beside as beside
@@ -96,14 +96,6 @@ take_back xs zs n is = take-append-le n xs zs (omega (arith, is)) ∙ sym (whole
 pub end_in : {X : Type 0} (R : X → X → Type 0) (Q : List X → List X → Type 0) → ((vs ws zs : List X) → Both R vs ws → Q (vs ++ zs) (ws ++ zs)) → (old xs : List X) (n : ℕ) → n ≡ length old → n ≡ length xs → Both R (take n old) (take n xs) → Q old xs
 end_in R Q close old xs n all_old is h =
     subst (λ q. Q q xs) (append-nil (take n old) ∙ sym (whole old n all_old)) (subst (λ q. Q (take n old ++ []) q) (append-nil (take n xs) ∙ sym (whole xs n is)) (close _ _ [] h))
-
-pub singles : {A : Type 0} (xs : List A) → flat_map (λ x. x ∷ []) xs ≡ xs
-singles [] = refl
-singles (x ∷ xs) = ap (λ ys. x ∷ ys) (singles xs)
-
-pub singles-map : {X A : Type 0} (h : X → A) (xs : List X) → flat_map (λ x. h x ∷ []) xs ≡ map h xs
-singles-map h [] = refl
-singles-map h (x ∷ xs) = ap (λ ys. h x ∷ ys) (singles-map h xs)
 
 pub each_length : {X : Type 0} (R : X → X → Type 0) {xs ys : List X} → Each R xs ys → length ys ≡ length xs
 each_length R (beside.rest xs) = refl

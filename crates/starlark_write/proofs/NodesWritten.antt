@@ -12,13 +12,9 @@ use Rattle.starlark_write.specs.BesideStatements.{KeepsHead, KeepsStmt}
 use Rattle.starlark_write.specs.Writing.{WritesUntil, WritesWhile}
 use Rattle.starlark_write.specs.WritingNodes.{NodesAll, NodesEach, NodesUntil, NodesWhile}
 use Rattle.starlark_write.proofs.KeptStatements.{exprs_kept, stmts_kept}
+use Rattle.starlark_visit.proofs.GoesOn.{ok_not_err}
 use Rattle.starlark_write.proofs.Loops.{new_split, old_more, old_split}
-
-nil_not_cons : {A : Type 0} {y : A} {ys : List A} → (y ∷ ys) ≡ [] → ⊥
-nil_not_cons h = cc
-
-ok_not_err : {E : Type 0} {e : E} {r : Result (Unit {0}) E} → r ≡ Ok tt → r ≡ Err e → ⊥
-ok_not_err h k = cc
+use Rattle.starlark_write.proofs.Writes.{nil_not_cons}
 
 module _ {V N E : Type 0} (step : V → N → Result (Unit {0}) E → V → N → Type 0) where
   pub nodes_none : {v : V} {r : Result (Unit {0}) E} → r ≡ Ok tt → NodesUntil step v [] r v []

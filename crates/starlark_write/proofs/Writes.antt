@@ -2,13 +2,11 @@
 use Rattle.std.proofs.Common.{◌≡◌, refl, sym, ◌∙◌, subst, List, [], ◌∷◌, ◌++◌, inl, inr, Result, Ok, Err}
 use Rattle.std.specs.Borrow.{MutBor}
 use Rattle.std.specs.Fn.{Called, Mut}
+use Rattle.starlark_visit.proofs.GoesOn.{ok_not_err}
 use Rattle.starlark_write.specs.Writing.{WritesUntil, WritesWhile}
 
-nil_not_cons : {A : Type 0} {y : A} {ys : List A} → (y ∷ ys) ≡ [] → ⊥
+pub nil_not_cons : {A : Type 0} {y : A} {ys : List A} → (y ∷ ys) ≡ [] → ⊥
 nil_not_cons h = cc
-
-ok_not_err : {E : Type 0} {e : E} {r : Result (Unit {0}) E} → r ≡ Ok tt → r ≡ Err e → ⊥
-ok_not_err h k = cc
 
 module _ {F A E : Type 0} (g : Mut F (MutBor A × Unit {0}) (Result (Unit {0}) E × (MutBor A × Unit {0}))) where
   pub writes_none : {f : F} {r : Result (Unit {0}) E} → r ≡ Ok tt → WritesUntil g f [] r f []

@@ -6,6 +6,7 @@ use Rattle.starlark_grammar.specs.Points.{behind_sign, body, operand, condition,
 use Rattle.starlark_grammar.specs.Frames.{inside, wants, has, tail, stands, perhaps_named}
 use Rattle.starlark_grammar.specs.Machine.{tails}
 use Rattle.starlark_read.specs.Reads.{begins_ahead, grade_ahead, name_ahead, in_clause}
+use Rattle.starlark_grammar.proofs.Reached.{plain_close}
 use Rattle.starlark_read.proofs.Exits.{begins, ◌>>◌, renamed, state_is, exits, behind_it, read_it, left_it, seen_as, gives, goes, runs_as, sticks, missing, stays_there, answers, halts, refuses}
 use Rattle.starlark_read.proofs.Beginning.{lambda_begins, plain_begins, lambda_ends}
 use Rattle.starlark_read.proofs.Operating.{signs, joins, no_choice, next_floor, next_tails, rest_of, chooses, no_else}
@@ -17,7 +18,7 @@ use Rattle.starlark_read.proofs.Suffixing.{at_grade, passes_tails, spanned, no_s
 use Rattle.starlark_read.proofs.Arguing.{members_are, no_argument_end, argument_opens, kwargs_begin, member_is, leaf_named}
 use Rattle.starlark_read.proofs.Subscripting.{bound_opens, ended_by, first_opens, goes_to_step, no_index_end, no_second_end, no_slice_end, no_step_end, slice_ends, step_ends}
 use Rattle.starlark_read.specs.Gathered.{quoted_ahead, gathered, text_ahead}
-use Rattle.starlark_read.proofs.Gathering.{bracket_from, passes_from, found_true, found_false, no_opening_at, still, both_same, wanted_from, item_begins, member_ends, closes_wanted, closes_read, no_round_end, before, list_span, comprehension_span, no_member_end, dict_span, wanted_as, read_as, gathers_wanted, gathers_read_as, first_kept, one_more, plain_closing, many_clause, key_begins, key_ends, no_colon, member_as, placed, span_from}
+use Rattle.starlark_read.proofs.Gathering.{bracket_from, passes_from, found_true, found_false, no_opening_at, still, both_same, wanted_from, item_begins, member_ends, closes_wanted, closes_read, no_round_end, before, list_span, comprehension_span, no_member_end, dict_span, wanted_as, read_as, gathers_wanted, gathers_read_as, first_kept, one_more, many_clause, key_begins, key_ends, no_colon, member_as, placed, span_from}
 use Rattle.starlark_read.proofs.Quoting.{string_from, string_ends, string_span, field_begins, field_from, pieces_as, no_piece, field_ends, bang_read, no_field_end, put, letter_from}
 use Rattle.starlark_read.proofs.Listing.{clauses_as, clauses_close, clause_more, filter_ends, no_clause, in_follows, no_in, over_ends, over_broken, right_target, list_begins, listed_from, list_comma_as, list_goes_on_with, list_broken_with, list_forgets, list_is}
 use Rattle.starlark_read.proofs.Naming.{body_as, slash_read, star_begins, stars_begin, star_from, name_begins, double_starred_read, no_kwargs, no_parameter, default_begins, name_is, named, unnamed, spans_as, defaults_as}
@@ -618,7 +619,7 @@ pub brackets::members_behind-returns-in_err-expect-clause-reads : goal.brackets:
 brackets::members_behind-returns-in_err-expect-clause-reads g met c d p b k h q =
     let n = left_it _ _ _ _ c.if-branch.false c.in_ok-accept.ensures in
     let m = left_it _ _ comma _ c.if-not-branch.true c.in_ok-accept-2.ensures in
-    missing (search rules) c.in_err-expect.ensures.unread c.in_err-expect.ensures.no_rule (λ w. sticks (c.loop-members.invariant.reads d p b k h q >> renamed n.0 >> item_begins p b _ _ _ _ k _ h (λ e. still n.0 n.1 (e ∙ ap Some (sym q))) >> (c.in_ok-next.ensures.reads d _).comes _ refl >> member_ends _ _ _ _ _ _ _ _ _) (stays_there (w.0 ∙ m.0) (no_member_end (brackets p b) _ _ _ k _ (plain_closing p) m.1 (λ e. before m.0 w.1 (e ∙ ap Some (sym q))) (inl (many_clause p b _ _ c.loop-members.invariant.filled)))))
+    missing (search rules) c.in_err-expect.ensures.unread c.in_err-expect.ensures.no_rule (λ w. sticks (c.loop-members.invariant.reads d p b k h q >> renamed n.0 >> item_begins p b _ _ _ _ k _ h (λ e. still n.0 n.1 (e ∙ ap Some (sym q))) >> (c.in_ok-next.ensures.reads d _).comes _ refl >> member_ends _ _ _ _ _ _ _ _ _) (stays_there (w.0 ∙ m.0) (no_member_end (brackets p b) _ _ _ k _ (plain_close p) m.1 (λ e. before m.0 w.1 (e ∙ ap Some (sym q))) (inl (many_clause p b _ _ c.loop-members.invariant.filled)))))
 
 pub brackets::members_behind-returns-then-not-branch-clause-reads : goal.brackets::members_behind-returns-then-not-branch-clause-reads
 brackets::members_behind-returns-then-not-branch-clause-reads g met c d p b k h q =

@@ -1,9 +1,10 @@
 use Rattle.std.proofs.Common.{refl, rules, ◌∙◌}
 use Rattle.starlark_lexer.specs.Items.{colon}
 use Rattle.starlark_grammar.specs.Frames.{result_type}
+use Rattle.starlark_read.proofs.Branching.{no_colon_next}
 use Rattle.starlark_read.proofs.Exits.{◌>>◌, exits, gives, goes, left_it, missing, read_it, renamed, stays_there, sticks}
 use Rattle.starlark_read.proofs.Gathering.{before}
-use Rattle.starlark_read.proofs.Signing.{no_result, no_suite, result_ends}
+use Rattle.starlark_read.proofs.Signing.{no_result, result_ends}
 use Rattle.starlark_read.proofs.signature.result_type.Goals as goal
 
 pub returns-then-branch-clause-reads : goal.returns-then-branch-clause-reads
@@ -22,7 +23,7 @@ returns-in_err-found-clause-reads g c h ps =
 pub returns-in_err-expect-2-clause-reads : goal.returns-in_err-expect-2-clause-reads
 returns-in_err-expect-2-clause-reads g c h ps =
     let n = left_it _ _ colon _ c.if-branch.false c.in_ok-accept.ensures in
-    missing (search rules) c.in_err-expect-2.ensures.unread c.in_err-expect-2.ensures.no_rule (λ m. sticks (renamed n.0 >> goes c.in_ok-expect.ensures.read refl refl >> (c.in_ok-found.ensures.reads (result_type h ps) (λ q. refl)).comes _ refl >> result_ends h ps _ _ _ c.in_ok-found.ensures.right) (stays_there m.0 (no_suite _ _ m.1)))
+    missing (search rules) c.in_err-expect-2.ensures.unread c.in_err-expect-2.ensures.no_rule (λ m. sticks (renamed n.0 >> goes c.in_ok-expect.ensures.read refl refl >> (c.in_ok-found.ensures.reads (result_type h ps) (λ q. refl)).comes _ refl >> result_ends h ps _ _ _ c.in_ok-found.ensures.right) (stays_there m.0 (no_colon_next _ _ m.1)))
 
 pub returns-clause-reads : goal.returns-clause-reads
 returns-clause-reads g c h ps =

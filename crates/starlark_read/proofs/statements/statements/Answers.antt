@@ -3,7 +3,7 @@ use Rattle.starlark_lexer.specs.Items.{newline}
 use Rattle.starlark_read.specs.declared.kind.Kind.TheVariants as kind
 use Rattle.starlark_grammar.specs.Frames.{at_line, outer}
 use Rattle.starlark_grammar.specs.Made.{sequence_of}
-use Rattle.starlark_read.proofs.Cleaning.{Clean, clean_ends, clean_more}
+use Rattle.starlark_grammar.proofs.CleanEnds.{EndsClean, clean_end, clean_more}
 use Rattle.starlark_read.proofs.Exits.{◌>>◌, exits, goes, left_it, read_it, refuses, renamed, state_is, sticks}
 use Rattle.starlark_read.proofs.Plain.{stands, stands_not}
 use Rattle.starlark_read.proofs.Rows.{no_suite_end, some_there, statement_more}
@@ -17,7 +17,7 @@ loop-found-preserved-then-branch g c = record {
 }
 
 pub returns-in-End-clause-clean : goal.returns-in-End-clause-clean
-returns-in-End-clause-clean g c h e = clean_ends _ e (c.loop-found.invariant.clean h)
+returns-in-End-clause-clean g c h e = clean_end _ _ e (c.loop-found.invariant.clean h)
 
 pub returns-in-Dedent-clause-reads : goal.returns-in-Dedent-clause-reads
 returns-in-Dedent-clause-reads g c =
@@ -47,5 +47,5 @@ loop-found-preserved g c =
     let more = statement_more f _ _ _ c.in_ok-push-in_default.ensures.items in
     record {
       reads = state_is (c.loop-found.invariant.reads >> renamed n.0 >> (c.in_ok-next-in_default.ensures.reads (outer ss) _ there (unlike n.0 n.1) inside).comes _ refl) (ap (λ z. at_line (outer z) c.statement.new.tokens.last) (sym more));
-      clean = λ h. let both = c.in_ok-are_clean-in_default.ensures h in subst (Clean _) (sym more) (clean_more _ (c.loop-found.invariant.clean both.0) both.1);
+      clean = λ h. let both = c.in_ok-are_clean-in_default.ensures h in subst (EndsClean _) (sym more) (clean_more _ (c.loop-found.invariant.clean both.0) both.1);
     }

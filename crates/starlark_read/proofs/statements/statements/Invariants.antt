@@ -3,13 +3,13 @@ use Rattle.starlark_ast.specs.Tree.{no_statements}
 use Rattle.starlark_grammar.specs.Frames.{at_line, outer}
 use Rattle.starlark_grammar.specs.Made.{sequence_of}
 use Rattle.starlark_read.specs.Reads.{Goes}
-use Rattle.starlark_read.proofs.Cleaning.{Clean}
+use Rattle.starlark_grammar.proofs.CleanEnds.{EndsClean}
 use Rattle.starlark_read.proofs.statements.statements.Given as goal
 
 abbrev pub invariant-loop-found : goal.invariant-loop-found
 invariant-loop-found g l = record {
   reads : Goes l.fn.dialect (at_line (outer no_statements) l.fn.tokens.last) l.fn.tokens (at_line (outer (sequence_of g.B.Make.says l.found.items)) l.tokens.last) l.tokens;
-  clean : l.are_clean ≡ true → Clean l.fn.dialect (sequence_of g.B.Make.says l.found.items);
+  clean : l.are_clean ≡ true → EndsClean l.fn.dialect (sequence_of g.B.Make.says l.found.items);
 }
 
 abbrev pub decreases-loop-found : goal.decreases-loop-found

@@ -2,7 +2,7 @@ use Rattle.std.proofs.Common.{sym, ap}
 use Rattle.starlark_ast.specs.View.{parameter_at}
 use Rattle.starlark_rulebook.specs.Late as late
 use Rattle.starlark_rules.proofs.Adding.{adds_as, adds_then}
-use Rattle.starlark_rules.proofs.Prefixes.{members_more}
+use Rattle.starlark_ast.proofs.Written.{members_more}
 use Rattle.starlark_rules.proofs.late.slash_rules.Goals as goal
 
 pub loop-x-preserved : goal.loop-x-preserved

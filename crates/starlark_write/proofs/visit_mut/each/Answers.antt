@@ -1,5 +1,6 @@
 use Rattle.std.proofs.Common.{rules, of_calls, arith, ◌≡◌, ◌<◌, refl, sym, ap, ◌∙◌, [], ◌∷◌, flat_map, length}
-use Rattle.starlark_write.proofs.Loops.{front_more, lengths_more, singles, whole, writes_more, writes_stop_here}
+use Rattle.starlark_visit.proofs.Lifted.{singles}
+use Rattle.starlark_write.proofs.Loops.{front_more, lengths_more, whole, writes_more, writes_stop_here}
 use Rattle.starlark_write.proofs.Writes.{writes_at, writes_last}
 use Rattle.starlark_write.proofs.visit_mut.each.Goals as goal
 
