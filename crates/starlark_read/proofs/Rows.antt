@@ -1,5 +1,5 @@
 -- Statements in a row.
-use Rattle.std.proofs.Common.{◌≡◌, ◌≢◌, subst, ℕ, List, [], ◌∷◌, ◌++◌, Some, None, Bool, true, false, length, fold, refl, ap, sym, ◌∙◌}
+use Rattle.std.proofs.Common.{◌≡◌, ◌≢◌, subst, ℕ, List, [], ◌∷◌, ◌++◌, Some, None, Bool, true, false, if◌then◌else◌, length, fold, refl, ap, sym, ◌∙◌}
 use Rattle.std.proofs.lemmas.List.Sums.{fold-append}
 use Rattle.std.specs.Bool.{MatchBool}
 use Rattle.starlark_lexer.specs.Items.{Lexeme, Item, item, dedent, newline, semicolon}
@@ -32,6 +32,13 @@ module _ {X : Type 0} (f : X → Statement) where
   -- one more
   pub statement_more : (xs ys : List X) (x : X) → ys ≡ xs ++ x ∷ [] → sequence_of f ys ≡ add_statement (sequence_of f xs) (f x)
   statement_more xs ys x w = ap (sequence_of f) w ∙ fold-append (λ ss y. add_statement ss (f y)) no_statements xs (x ∷ [])
+
+-- what stands behind a small statement ends its line, or not
+pub row_over : {d : Dialect} {s : State} (u v : State) {b : Bool} {ts us : Left} → b ≡ true → Goes d s ts (if b then u else v) us → Goes d s ts u us
+row_over u v h g = state_is g (ap (λ z. if z then u else v) h)
+
+pub row_goes_on : {d : Dialect} {s : State} (u v : State) {b : Bool} {ts us : Left} → b ≡ false → Goes d s ts (if b then u else v) us → Goes d s ts v us
+row_goes_on u v h g = state_is g (ap (λ z. if z then u else v) h)
 
 -- a line ends, behind a semicolon or not
 pub row_ends : {d : Dialect} (s : Statement) (done : Sequence) (k : Rows) (ts us vs : Left) (b : Bool) → MatchBool b (Passes ts (item (start ts.items) semicolon us.last) us) ((us ≡ ts) × (first_lexeme ts.items ≢ Some semicolon)) → Passes us (item (start us.items) newline vs.last) vs → Goes d (behind_small s (line done k)) ts (end_row k (block_of (add_statement done s) vs.last) vs.last) vs

@@ -26,6 +26,9 @@ pub(crate) fn expression<B: Build>(tokens: &mut Tokens<'_>, level: u8) -> Result
     let floor = level_ahead(tokens, level);
     if floor == PRIMARY {
         let left = atom::<B>(tokens)?;
+        if level < tokens.grade() {
+            return Ok(left);
+        }
         let left = suffixes::<B>(tokens, left)?;
         return operators::<B>(tokens, left, UNARY, level);
     }

@@ -1,4 +1,4 @@
-//! The levels of expressions, each by its nonterminal in docs/LANGUAGE.md, Grammar: the lower one binds more.
+//! The levels of expressions (docs/LANGUAGE.md, Grammar): the lower one binds more.
 
 /// A name, a bracket, a suffix.
 pub(crate) const PRIMARY: u8 = 0;

@@ -27,6 +27,9 @@ use Rattle.starlark_read.proofs.+expression.Goals as goal
 pub expression::expression-returns-in_err-left-clause-reads : goal.expression::expression-returns-in_err-left-clause-reads
 expression::expression-returns-in_err-left-clause-reads g met c d k = exits (search rules) (plain_begins c.args.level k _ (c.level_ahead-floor.ensures.none c.if-floor-eq-PRIMARY.true)) (c.in_err-left.ensures.reads d (tails c.args.level 1 k))
 
+pub expression::expression-returns-then-level-grade-clause-reads : goal.expression::expression-returns-then-level-grade-clause-reads
+expression::expression-returns-then-level-grade-clause-reads g met c d k = gives (plain_begins c.args.level k _ (c.level_ahead-floor.ensures.none c.if-floor-eq-PRIMARY.true) >> (c.in_ok-left.ensures.reads d (tails c.args.level 1 k)).comes _ refl >> runs_as (passes_tails (suc c.args.level) 0 _ _ k _ (inr (omega (arith, c.grade.ensures, c.if-level-grade.true)))))
+
 pub expression::expression-returns-in_err-left-2-clause-reads : goal.expression::expression-returns-in_err-left-2-clause-reads
 expression::expression-returns-in_err-left-2-clause-reads g met c d k = exits (search rules) (plain_begins c.args.level k _ (c.level_ahead-floor.ensures.none c.if-floor-eq-PRIMARY.true) >> (c.in_ok-left.ensures.reads d (tails c.args.level 1 k)).comes _ refl) (c.in_err-left-2.ensures.reads d (tails c.args.level 1 k))
 

@@ -1,45 +1,64 @@
-use Rattle.std.proofs.Common.{refl, ap, sym, ◌∙◌, rules, arith, length}
-use Rattle.starlark_lexer.specs.Items.{newline, semicolon}
+use Rattle.std.proofs.Common.{◌≡◌, [], ◌∷◌, ◌++◌, refl, ap, sym, ◌∙◌, rules, arith}
+use Rattle.starlark_ast.specs.Tree.{add_statement, no_statements}
 use Rattle.starlark_grammar.specs.Frames.{line, wants_small}
 use Rattle.starlark_grammar.specs.Made.{sequence_of}
-use Rattle.starlark_read.proofs.Exits.{◌>>◌, exits, gives, goes, left_it, read_it, refuses, renamed, state_is, stays_there, sticks}
-use Rattle.starlark_read.proofs.Rows.{no_row_end, row_ends, row_is, statement_more}
-use Rattle.starlark_read.proofs.Suffixing.{unlike}
+use Rattle.starlark_read.proofs.Exits.{◌>>◌, begins, exits, gives, state_is}
+use Rattle.starlark_read.proofs.Rows.{row_goes_on, row_is, row_over, statement_more}
 use Rattle.starlark_read.proofs.row.row.Goals as goal
+
+pub returns-in_err-first-clause-reads : goal.returns-in_err-first-clause-reads
+returns-in_err-first-clause-reads g c k w = exits (search rules) begins (c.in_err-first.ensures.reads (line no_statements k) w)
+
+pub returns-in_err-row_ends-clause-reads : goal.returns-in_err-row_ends-clause-reads
+returns-in_err-row_ends-clause-reads g c k w =
+    let s = g.B.Make.says c.in_ok-first.first in
+    exits (search rules) ((c.in_ok-first.ensures.reads (line no_statements k) w).comes _ refl) (c.in_err-row_ends.ensures.reads c.args.dialect.now s no_statements k)
+
+pub returns-then-branch-clause-reads : goal.returns-then-branch-clause-reads
+returns-then-branch-clause-reads g c k w =
+    let s = g.B.Make.says c.in_ok-first.first in
+    gives (row_over _ _ c.if-branch.true ((c.in_ok-first.ensures.reads (line no_statements k) w).comes _ refl >> (c.in_ok-row_ends.ensures.reads c.args.dialect.now s no_statements k).comes _ refl))
+
+pub loop-statements-init : goal.loop-statements-init
+loop-statements-init g c =
+    let f = g.B.Make.says in
+    let s = f c.in_ok-first.first in
+    let one : sequence_of f c.push.new.self.items ≡ add_statement no_statements s = ap (sequence_of f) (c.in_ok-push.ensures.items ∙ ap (λ z. z ++ c.in_ok-first.first ∷ []) c.new-statements.ensures.items) in
+    record {
+      reads = λ k w. state_is (row_goes_on _ _ c.if-branch.false ((c.in_ok-first.ensures.reads (line no_statements k) w).comes _ refl >> (c.in_ok-row_ends.ensures.reads c.args.dialect.now s no_statements k).comes _ refl)) (ap (λ ss. wants_small (line ss k)) (sym one));
+      begins = c.in_ok-row_ends.ensures.goes_on c.if-branch.false;
+      shorter = omega (arith, c.in_ok-first.ensures.shorter, c.in_ok-row_ends.ensures.shorter);
+    }
 
 pub returns-in_err-next-clause-reads : goal.returns-in_err-next-clause-reads
 returns-in_err-next-clause-reads g c k w =
     let v = c.loop-statements.invariant in
     let done = sequence_of g.B.Make.says c.loop-statements.statements.items in
-    exits (search rules) (v.reads k w) (c.in_err-next.ensures.reads (line done k) (v.begins w))
+    exits (search rules) (v.reads k w) (c.in_err-next.ensures.reads (line done k) v.begins)
 
-pub returns-then-branch-clause-reads : goal.returns-then-branch-clause-reads
-returns-then-branch-clause-reads g c k w =
+pub returns-in_err-row_ends-2-clause-reads : goal.returns-in_err-row_ends-2-clause-reads
+returns-in_err-row_ends-2-clause-reads g c k w =
     let v = c.loop-statements.invariant in
     let f = g.B.Make.says in
     let done = sequence_of f c.loop-statements.statements.items in
-    let more = statement_more f _ _ _ c.in_ok-push.ensures.items in
-    let p = read_it _ _ newline _ c.if-branch.true c.in_ok-accept.ensures in
-    gives (row_is k _ _ _ _ _ (v.reads k w >> (c.in_ok-next.ensures.reads (line done k) (v.begins w)).comes _ refl >> row_ends _ done k _ _ _ _ c.in_ok-goes_on.ensures p) c.block.ensures more c.last.ensures)
+    exits (search rules) (v.reads k w >> (c.in_ok-next.ensures.reads (line done k) v.begins).comes _ refl) (c.in_err-row_ends-2.ensures.reads c.args.dialect.now (f c.in_ok-next.next) done k)
 
-pub returns-then-not-goes_on-clause-reads : goal.returns-then-not-goes_on-clause-reads
-returns-then-not-goes_on-clause-reads g c k w =
+pub returns-then-branch-2-clause-reads : goal.returns-then-branch-2-clause-reads
+returns-then-branch-2-clause-reads g c k w =
     let v = c.loop-statements.invariant in
-    let done = sequence_of g.B.Make.says c.loop-statements.statements.items in
-    let s = left_it _ _ semicolon _ c.if-not-goes_on.true c.in_ok-goes_on.ensures in
-    let n = left_it _ _ newline _ c.if-branch.false c.in_ok-accept.ensures in
-    refuses (sticks (v.reads k w >> (c.in_ok-next.ensures.reads (line done k) (v.begins w)).comes _ refl) (stays_there (n.0 ∙ s.0) (no_row_end _ done k _ s.1 (unlike (sym s.0) n.1))))
+    let f = g.B.Make.says in
+    let done = sequence_of f c.loop-statements.statements.items in
+    let more = statement_more f _ _ _ c.in_ok-push-2.ensures.items in
+    gives (row_is k _ _ _ _ _ (row_over _ _ c.if-branch-2.true (v.reads k w >> (c.in_ok-next.ensures.reads (line done k) v.begins).comes _ refl >> (c.in_ok-row_ends-2.ensures.reads c.args.dialect.now (f c.in_ok-next.next) done k).comes _ refl)) c.block.ensures more c.last.ensures)
 
 pub loop-statements-preserved : goal.loop-statements-preserved
 loop-statements-preserved g c =
     let v = c.loop-statements.invariant in
     let f = g.B.Make.says in
     let done = sequence_of f c.loop-statements.statements.items in
-    let more = statement_more f _ _ _ c.in_ok-push.ensures.items in
-    let s = read_it _ _ semicolon _ c.if-not-goes_on.false c.in_ok-goes_on.ensures in
-    let n = left_it _ _ newline _ c.if-branch.false c.in_ok-accept.ensures in
+    let more = statement_more f _ _ _ c.in_ok-push-2.ensures.items in
     record {
-      reads = λ k w. state_is (v.reads k w >> (c.in_ok-next.ensures.reads (line done k) (v.begins w)).comes _ refl >> goes s refl refl >> renamed n.0) (ap (λ ss. wants_small (line ss k)) (sym more));
-      begins = λ w. unlike n.0 n.1;
-      shorter = omega (arith, v.shorter, c.in_ok-next.ensures.shorter, ap length s.items, ap (λ ts. length ts.items) n.0);
+      reads = λ k w. state_is (row_goes_on _ _ c.if-branch-2.false (v.reads k w >> (c.in_ok-next.ensures.reads (line done k) v.begins).comes _ refl >> (c.in_ok-row_ends-2.ensures.reads c.args.dialect.now (f c.in_ok-next.next) done k).comes _ refl)) (ap (λ ss. wants_small (line ss k)) (sym more));
+      begins = c.in_ok-row_ends-2.ensures.goes_on c.if-branch-2.false;
+      shorter = omega (arith, v.shorter, c.in_ok-next.ensures.shorter, c.in_ok-row_ends-2.ensures.shorter);
     }
