@@ -10,6 +10,7 @@ ghost use Rattle.starlark_rulebook.specs.Targets as targets;
 ghost use Rattle.starlark_rulebook.specs.View.{IsPlaced, RefusesFor, maybe_finding};
 
 use crate::finding::{broken_if, refused};
+use crate::waiting::{beside, boxed_beside, keep_first, with_made};
 use starlark_ast::ast::{
     AssignIdentP, AssignOp, AssignP, AssignTargetP, AstAssignIdent, AstAssignTarget, AstExpr,
     AstExprP, AstIdent, AstPayload, AstString, AstTypeExpr, AstTypeExprP, Expr, ExprP, IdentP,
@@ -35,7 +36,7 @@ pub fn check_assign(
     ensures refused { IfErr result (RefusesFor (targets.target_fault (expr_at expr)) codemap.now) }
 {
     if let Some(found) = target_fault(&expr) {
-        return Err(refused(alloc, found, codemap));
+        return Err(keep_first(refused(alloc, found, codemap), expr));
     }
     match target(alloc, expr) {
         Ok(target) => Ok(target),
@@ -61,7 +62,7 @@ pub fn check_assignment(
     ensures refused { IfErr result (RefusesFor (targets.assignment_fault (expr_at lhs) (boxed_type ty) op) codemap.now) }
 {
     if let Some(found) = assignment_fault(&lhs, &ty, op) {
-        return Err(refused(alloc, found, codemap));
+        return Err(keep_first(refused(alloc, found, codemap), (lhs, ty, rhs)));
     }
     match assignment(alloc, lhs, ty, op, rhs) {
         Ok(made) => Ok(made),
@@ -132,7 +133,7 @@ pub fn assignment(
     requires { targets.assignment_fault (expr_at lhs) (boxed_type ty) op ≡ None }
     ensures { IfOk result (λ x. (s : Extent) → stmt_view x s ≡ assign (targets.target_of (expr_at lhs)) (boxed_type ty) op (expr_at rhs) s) }
 {
-    let lhs = target(alloc, lhs)?;
+    let (lhs, (ty, rhs)) = beside(target(alloc, lhs), (ty, rhs))?;
     match op {
         None => Ok(StmtP::Assign(AssignP {
             lhs,
@@ -140,7 +141,7 @@ pub fn assignment(
             rhs,
         })),
         Some(op) => {
-            let rhs = Box::new(alloc, rhs)?;
+            let (rhs, lhs) = boxed_beside(alloc, rhs, keep_first(lhs, ty))?;
             Ok(StmtP::AssignModify(lhs, op, rhs))
         }
     }
@@ -185,7 +186,6 @@ pub fn target(alloc: Global, x: AstExpr) -> Result<AstAssignTarget, AllocError>
 }
 
 /// An expression, as far as it may be assigned to.
-#[derive(Drop)]
 enum Assignable {
     Several(Vec<AstExpr>),
     Index(Box<(AstExpr, AstExpr)>),
@@ -217,9 +217,11 @@ fn several(alloc: Global, xs: Vec<AstExpr>) -> Result<Vec<AstAssignTarget>, Allo
     rest.reverse();
     let mut done = Vec::new(alloc);
     while let Some(x) = rest.pop() {
-        done.push(target(alloc, x)?)?;
+        let (more, left) = with_made(done, target(alloc, x), rest)?;
+        done = more;
+        rest = left;
     }
-    Ok(done)
+    Ok(keep_first(done, rest))
 }
 
 /// An identifier that is assigned.

@@ -14,5 +14,6 @@ pub mod parameters;
 pub mod tree;
 pub mod type_expr;
 pub mod types;
+mod waiting;
 
 pub use starlark_rulebook::rule;
