@@ -26,7 +26,7 @@ use Rattle.starlark_lexer.proofs.JoinedBodies.{Final}
 use Rattle.starlark_cutting.proofs.KeptReads as reads
 use Rattle.starlark_cutting.proofs.KeptReads.{extent, body_once, mark_piece, inner, inner_piece}
 use Rattle.starlark_cutting.proofs.KeptLines.{Stops}
-use Rattle.starlark_cutting.proofs.KeptNumbers.{few_radices, no_row, row_not, none_passes}
+use Rattle.starlark_lexer.proofs.Passing.{few_radices, no_row, row_not, none_passes}
 use Rattle.starlark_cutting.proofs.KeptMarks.{Barrier, is_opened, opens_with}
 use Rattle.starlark_cutting.proofs.KeptTails.{Item_within, item_fits, tail, tail_field, no_marks, closed_front, field_front, field_brace, stops_brace}
 

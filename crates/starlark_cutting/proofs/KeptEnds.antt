@@ -8,7 +8,8 @@ use Rattle.starlark_lexer.specs.Classes.{leading, line_len, line_end}
 use Rattle.starlark_lexer.specs.Lex.{Past, Move, Step, on, over, IsBalanced}
 use Rattle.starlark_lexer.specs.Lex as rules
 use Rattle.starlark_lexer.proofs.JoinedBodies.{Ended}
-use Rattle.starlark_cutting.proofs.KeptRemarks.{ended_some, ended_behind, full_ended}
+use Rattle.starlark_lexer.proofs.Joined.{ended_some}
+use Rattle.starlark_cutting.proofs.KeptRemarks.{ended_behind, full_ended}
 use Rattle.starlark_cutting.proofs.KeptMoves.{At, BodyFits, Fresh, fresh_body, first_kept, stands_kept}
 use Rattle.starlark_cutting.proofs.KeptSteps.{blank_kept, remark_kept, remark_len}
 use Rattle.starlark_cutting.proofs.KeptFinal.{behind_all}

@@ -13,9 +13,9 @@ use Rattle.starlark_lexer.specs.Literals.{body, read, by_piece, piece, mark, lat
 use Rattle.starlark_lexer.specs.Classes.{Meaning, meaning, token, opens, IsLexeme}
 use Rattle.starlark_lexer.specs.Lex.{Mode, Past, Move, Step, on, over, mode_behind, below, gives, turns, literal_lexeme, IsPlain}
 use Rattle.starlark_lexer.specs.Lex as rules
-use Rattle.starlark_lexer.proofs.Cuts.{quotes_some}
+use Rattle.starlark_lexer.proofs.Openings.{quotes_some}
 use Rattle.starlark_cutting.specs.Cutting.{inner}
-use Rattle.starlark_cutting.proofs.Clean.{stop_none}
+use Rattle.starlark_lexer.proofs.Clean.{stop_none}
 use Rattle.starlark_cutting.proofs.KeptLines.{Stops, lexeme_kept}
 use Rattle.starlark_cutting.proofs.KeptMoves.{At, not_inside, plain_kept}
 use Rattle.starlark_cutting.proofs.KeptSteps.{literal_kept, leaves_kept}

@@ -10,7 +10,7 @@ use Rattle.starlark_lexer.specs.Classes.{leading, line_len}
 use Rattle.starlark_lexer.specs.Lex.{Past, Move, Step, on, over, is_inside, literal_lexeme}
 use Rattle.starlark_lexer.specs.Lex as rules
 use Rattle.starlark_lexer.proofs.JoinedTokens.{token_neutral}
-use Rattle.starlark_lexer.proofs.Ordered.{len_most, end_most}
+use Rattle.starlark_lexer.proofs.Gaps.{line_len_within, line_end_within}
 use Rattle.starlark_cutting.specs.Cutting.{tokens_of}
 use Rattle.starlark_cutting.proofs.KeptSteps.{remark_len}
 use Rattle.starlark_cutting.proofs.KeptReach.{is_line}
@@ -101,7 +101,7 @@ Begun p rest (over l) = Unit {0}
 
 remark_all : (rest c : List ℕ) → drop (leading rest) rest ≡ 35 ∷ c → drop (remark_len rest c) rest ≡ [] → remark_len rest c ≡ length rest
 remark_all rest c e h =
-    let most : remark_len rest c ≤ length rest = omega (arith, ap length e, length-drop (leading rest) rest, len_most c, end_most (drop (line_len c) c), length-drop (line_len c) c) in
+    let most : remark_len rest c ≤ length rest = omega (arith, ap length e, length-drop (leading rest) rest, line_len_within c, line_end_within (drop (line_len c) c), length-drop (line_len c) c) in
     omega (arith, most, ap length h, length-drop (remark_len rest c) rest)
 
 pub begins_last : {p : Past} {rest : List ℕ} {m : Move} → Step p rest m → Begun p rest m

@@ -7,10 +7,12 @@ use Rattle.std.proofs.lemmas.List.{get_or-take, get_or_append_left, length-take-
 use Rattle.starlark_lexer.specs.declared.token.LexemeError.TheVariants.{InvalidInput}
 use Rattle.starlark_lexer.specs.Literals.{opening_of, prefix_of, quote_of, letters, opened}
 use Rattle.starlark_lexer.specs.Classes.{Meaning, meaning, token, refused, opens, operator_of, is_other, when, IsLexeme, begins_line, line_end, line_len, escaped, closes_field}
-use Rattle.starlark_cutting.proofs.Clean.{clean, stop_none}
+use Rattle.starlark_lexer.proofs.Clean.{clean, stop_none}
 use Rattle.starlark_cutting.proofs.KeptBodies.{take_kept}
-use Rattle.starlark_cutting.proofs.KeptRemarks.{len_zero, len_more, end_two, ended_some}
+use Rattle.starlark_cutting.proofs.KeptRemarks.{len_zero, len_more, end_two}
 use Rattle.starlark_lexer.proofs.JoinedBodies.{Ended}
+use Rattle.starlark_lexer.proofs.JoinedLines.{last_of}
+use Rattle.starlark_lexer.proofs.Joined.{ended_some}
 
 -- a blank or a line feed stands first
 abbrev pub Stops : List ℕ → Type 0
@@ -26,11 +28,6 @@ Barred u s = Stops s ⊎ Ended u
 at_end : (u : List ℕ) (b : ℕ) (bs : List ℕ) → get_or (u ++ b ∷ bs) (length u) 0 ≡ b
 at_end [] b bs = refl
 at_end (x ∷ u) b bs = let e : length (x ∷ u) ≡ suc (length u) = omega arith in ap (λ k. get_or (x ∷ u ++ b ∷ bs) k 0) e ∙ at_end u b bs
-
-last_of : (xs : List ℕ) → Ended xs → get_or xs (length xs - 1) 0 ≡ 10
-last_of [] h = absurd h
-last_of (b ∷ []) h = h
-last_of (b ∷ c ∷ bs) h = let e : length (b ∷ c ∷ bs) - 1 ≡ suc (length (c ∷ bs) - 1) = omega arith in ap (λ k. get_or (b ∷ c ∷ bs) k 0) e ∙ last_of (c ∷ bs) h
 
 pub past_none : (u s : List ℕ) (k : ℕ) → Barred u s → length u < k → k ≤ length (u ++ s) → meaning (take k (u ++ s)) ≡ None
 past_none u [] k (inl h) far fits = absurd h

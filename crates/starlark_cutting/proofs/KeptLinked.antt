@@ -13,7 +13,8 @@ use Rattle.starlark_lexer.specs.Depth as depth
 use Rattle.starlark_lexer.specs.Lex.{Mode, Past, Move, Step, on, over, is_inside, recorded, mode_behind, bracket_of, literal_lexeme, moved, gives, turns}
 use Rattle.starlark_lexer.specs.Lex as rules
 use Rattle.starlark_lexer.proofs.Depth.{no_depth, one_more}
-use Rattle.starlark_lexer.proofs.JoinedOn.{count_cons, dedents_opened, dedents_closed}
+use Rattle.starlark_lexer.proofs.JoinedOn.{count_cons}
+use Rattle.starlark_lexer.proofs.Dedents.{dedents_opened, dedents_closed}
 use Rattle.starlark_cutting.specs.Opened.{Nest, outside, in_field, in_text, Goes_to, Way}
 use Rattle.starlark_cutting.proofs.KeptMoves.{Fresh}
 use Rattle.starlark_cutting.proofs.KeptOrdinary.{ordinary, token_ordinary, Turn, deepens, rises, stays, turn_of}

@@ -16,8 +16,8 @@ use Rattle.starlark_lexer.specs.declared.token.FStringQuote.{FStringQuote}
 use Rattle.starlark_lexer.specs.declared.token.FStringQuote.TheVariants.{Single, Double, TripleSingle, TripleDouble}
 use Rattle.starlark_lexer.specs.Literals.{is_mark, is_format, quotes, opening_of, opened, prefix_of, quote_of, letters}
 use Rattle.starlark_lexer.specs.Classes.{meaning, is_word_byte, operators, operator_of, is_continuation}
-use Rattle.starlark_cutting.proofs.Clean.{some_not}
-use Rattle.starlark_cutting.proofs.KeptNumbers.{few_radices, no_row, row_not, none_passes}
+use Rattle.starlark_lexer.proofs.Passing.{few_radices, no_row, row_not, none_passes}
+use Rattle.starlark_lexer.proofs.Options.{none_some}
 use Rattle.starlark_cutting.proofs.KeptLines.{Stops, past_none}
 
 -- ---- classes without quotes
@@ -76,12 +76,12 @@ module _ {A : Type 0} where
   some_same x y e = cc
 
 quote_is : (ys : List ℕ) (q : FStringQuote) → quote_of ys ≡ Some q → (length ys ≡ quotes q) × (list_all is_mark ys ≡ true)
-quote_is [] q h = absurd (some_not q h)
+quote_is [] q h = absurd (none_some q h)
 quote_is (a ∷ []) q h = elim (cases_Bool (eqb a 39)) [
   | inl e ↦ let s : Single ≡ q = some_same _ _ (rw e at h) in (ap quotes s, one_39 a e)
   | inr e ↦ elim (cases_Bool (eqb a 34)) [
     | inl f ↦ let s : Double ≡ q = some_same _ _ (rw (e, f) at h) in (ap quotes s, one_34 a f)
-    | inr f ↦ absurd (some_not q (rw (e, f) at h))
+    | inr f ↦ absurd (none_some q (rw (e, f) at h))
   ]
 ]
   where
@@ -90,12 +90,12 @@ quote_is (a ∷ []) q h = elim (cases_Bool (eqb a 39)) [
 
     one_34 : (a : ℕ) → eqb a 34 ≡ true → (is_mark a && true) ≡ true
     one_34 a h = grind (arith, nat_tests)
-quote_is (a ∷ b ∷ []) q h = absurd (some_not q h)
+quote_is (a ∷ b ∷ []) q h = absurd (none_some q h)
 quote_is (a ∷ b ∷ c ∷ []) q h = elim (cases_Bool (eqb a 39 && eqb b 39 && eqb c 39)) [
   | inl e ↦ let s : TripleSingle ≡ q = some_same _ _ (rw e at h) in (ap quotes s, three_39 a b c e)
   | inr e ↦ elim (cases_Bool (eqb a 34 && eqb b 34 && eqb c 34)) [
     | inl f ↦ let s : TripleDouble ≡ q = some_same _ _ (rw (e, f) at h) in (ap quotes s, three_34 a b c f)
-    | inr f ↦ absurd (some_not q (rw (e, f) at h))
+    | inr f ↦ absurd (none_some q (rw (e, f) at h))
   ]
 ]
   where
@@ -104,7 +104,7 @@ quote_is (a ∷ b ∷ c ∷ []) q h = elim (cases_Bool (eqb a 39 && eqb b 39 && 
 
     three_34 : (a b c : ℕ) → (eqb a 34 && eqb b 34 && eqb c 34) ≡ true → list_all is_mark (a ∷ b ∷ c ∷ []) ≡ true
     three_34 a b c h = grind (arith, nat_tests)
-quote_is (a ∷ b ∷ c ∷ d ∷ w) q h = absurd (some_not q h)
+quote_is (a ∷ b ∷ c ∷ d ∷ w) q h = absurd (none_some q h)
 
 prefix_is : (xs : List ℕ) (p : Sort × Bool) → prefix_of xs ≡ Some p → (list_all opens_with xs ≡ true) × (is_format p.0 ≡ true → 0 < length xs)
 prefix_is [] p h = let s : (Text, false) ≡ p = some_same _ _ h in (refl, λ t. absurd (false≢true (ap (λ r. is_format r.0) s ∙ t)))
@@ -120,7 +120,7 @@ prefix_is (a ∷ []) p h = (one, λ t. omega arith)
           let e : eqb a 114 ≡ false = grind (arith, nat_tests) in
           let f : eqb a 98 ≡ false = grind (arith, nat_tests) in
           let g : eqb a 102 ≡ false = grind (arith, nat_tests) in
-          absurd (some_not p (sym (found a e f g) ∙ h))
+          absurd (none_some p (sym (found a e f g) ∙ h))
     ]
 prefix_is (a ∷ b ∷ []) p h = (two, λ t. omega arith)
   where
@@ -135,10 +135,10 @@ prefix_is (a ∷ b ∷ []) p h = (two, λ t. omega arith)
       | inl e ↦ first a b e
       | inr e ↦ elim (cases_Bool ((eqb a 102 && eqb b 114) || (eqb a 114 && eqb b 102))) [
         | inl f ↦ second a b f
-        | inr f ↦ absurd (some_not p (rw (e, f) at h))
+        | inr f ↦ absurd (none_some p (rw (e, f) at h))
       ]
     ]
-prefix_is (a ∷ b ∷ c ∷ w) p h = absurd (some_not p h)
+prefix_is (a ∷ b ∷ c ∷ w) p h = absurd (none_some p h)
 
 all_at : (p : ℕ → Bool) (xs : List ℕ) (i : ℕ) → list_all p xs ≡ true → i < length xs → p (get_or xs i 0) ≡ true
 all_at p xs i h lt = elim (cases_Bool (p (get_or xs i 0))) [ inl e ↦ e | inr e ↦ absurd (false≢true (sym (list_all_at p xs i 0 lt e) ∙ h)) ]
@@ -150,8 +150,8 @@ mark_opens : (b : ℕ) → is_mark b ≡ true → opens_with b ≡ true
 mark_opens b h = grind (arith, nat_tests)
 
 opened_by : (w : List ℕ) (o : Option (Sort × Bool)) (r : Option FStringQuote) (g : Form) → prefix_of (take (letters w) w) ≡ o → quote_of (drop (letters w) w) ≡ r → opened o r ≡ Some g → IsOpened w g
-opened_by w None r g h k e = absurd (some_not g e)
-opened_by w (Some p) None g h k e = absurd (some_not g e)
+opened_by w None r g h k e = absurd (none_some g e)
+opened_by w (Some p) None g h k e = absurd (none_some g e)
 opened_by w (Some p) (Some q) g h k e =
     let n = letters w in
     let le : n ≤ length w = prefix_len-le-length unmarked w in

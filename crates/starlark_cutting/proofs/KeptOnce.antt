@@ -12,10 +12,10 @@ use Rattle.starlark_lexer.specs.Literals.{body, quotes, value, is_format, openin
 use Rattle.starlark_lexer.specs.Classes.{meaning, token, refused, opens, closes_field, operator_of, IsLexeme}
 use Rattle.starlark_lexer.specs.Lex.{Mode, Past, Move, Step, on, over, mode_behind, is_inside, below, gives, turns, literal_lexeme, IsPlain}
 use Rattle.starlark_lexer.specs.Lex as rules
-use Rattle.starlark_lexer.proofs.Cuts.{quotes_some}
+use Rattle.starlark_lexer.proofs.Openings.{quotes_some}
 use Rattle.starlark_cutting.specs.Opened.{is_text}
 use Rattle.starlark_cutting.proofs.KeptBodies.{take_kept}
-use Rattle.starlark_cutting.proofs.Clean.{clean}
+use Rattle.starlark_lexer.proofs.Clean.{clean}
 use Rattle.starlark_cutting.proofs.KeptLines.{Stops}
 use Rattle.starlark_cutting.proofs.KeptMoves.{plain_kept}
 use Rattle.starlark_cutting.proofs.KeptReads.{extent}

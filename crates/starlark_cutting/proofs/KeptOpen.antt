@@ -13,7 +13,7 @@ use Rattle.starlark_lexer.specs.Classes.{Meaning, closes_field, token, opens, le
 use Rattle.starlark_lexer.specs.Lex.{Mode, Past, Move, Step, on, over, is_inside, recorded, mode_behind, below, moved, gives, deepened, fitted, turns, literal_lexeme}
 use Rattle.starlark_lexer.specs.Lex as rules
 use Rattle.starlark_lexer.proofs.JoinedBodies.{Final}
-use Rattle.starlark_lexer.proofs.Cuts.{quotes_some}
+use Rattle.starlark_lexer.proofs.Openings.{quotes_some}
 use Rattle.starlark_cutting.proofs.KeptBodies.{take_kept}
 use Rattle.starlark_cutting.proofs.KeptReads.{body_same, extent, at_once, body_once}
 use Rattle.starlark_cutting.proofs.KeptLines.{Holds, lexeme_longest, closes_kept, escaped_kept}

@@ -9,8 +9,8 @@ use Rattle.starlark_lexer.specs.declared.literal.Piece.TheVariants.{Closing, Fie
 use Rattle.starlark_lexer.specs.declared.token.FStringQuote.{FStringQuote}
 use Rattle.starlark_lexer.specs.declared.token.FStringQuote.TheVariants.{Single, Double, TripleSingle, TripleDouble}
 use Rattle.starlark_lexer.specs.Literals.{quotes, mark, is_triple, is_format, begins, escape, raw_escape, goes_on, brace, piece, later, by_piece, read, body}
-use Rattle.starlark_lexer.proofs.JoinedBodies.{Final}
-use Rattle.starlark_lexer.proofs.Cuts.{quotes_some}
+use Rattle.starlark_lexer.proofs.JoinedBodies.{Final, final_later}
+use Rattle.starlark_lexer.proofs.Openings.{quotes_some}
 use Rattle.starlark_cutting.proofs.KeptBodies.{Within, Some_bytes, pick, escape_some, raw_some, escape_same, raw_same, brace_same}
 
 -- A body that n bytes of are passed over ends within the bytes: with its quotes, or before a brace and another byte.
@@ -216,12 +216,6 @@ at_once (ending.Closed k) = ending.Closed 0
 at_once (ending.Field k) = ending.Field 0
 at_once (ending.Unfinished k) = ending.Unfinished k
 at_once (ending.Escape k m) = ending.Escape k m
-
-pub final_later : (n : ℕ) (e : Ending) → Final (later n e) → Final e
-final_later n (ending.Closed k) h = tt
-final_later n (ending.Field k) h = tt
-final_later n (ending.Unfinished k) h = h
-final_later n (ending.Escape k m) h = h
 
 pub extent_later : (n : ℕ) (e : Ending) → extent (later n e) ≡ n + extent e
 extent_later n (ending.Closed k) = refl

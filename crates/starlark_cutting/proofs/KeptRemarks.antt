@@ -86,10 +86,6 @@ full_kept (b ∷ c ∷ u) v s lt le =
 
 -- ---- its last byte is a line feed
 
-pub ended_some : (xs : List ℕ) → Ended xs → 0 < length xs
-ended_some [] h = absurd h
-ended_some (b ∷ bs) h = omega arith
-
 ended_cons : (b : ℕ) (bs : List ℕ) → Ended bs → Ended (b ∷ bs)
 ended_cons b [] h = absurd h
 ended_cons b (c ∷ bs) h = h

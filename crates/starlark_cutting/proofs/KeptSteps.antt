@@ -12,7 +12,8 @@ use Rattle.starlark_lexer.specs.Widths.{IsOpen, IsDeeper, Closes}
 use Rattle.starlark_lexer.specs.Classes.{closes_field, token, opens, is_blank, leading, has_tab, width, line_end, line_len, escaped, IsLexeme}
 use Rattle.starlark_lexer.specs.Lex.{Past, Move, Step, on, over, is_inside, recorded, mode_behind, below, moved, gives, deepened, fitted, turns, literal_lexeme}
 use Rattle.starlark_lexer.specs.Lex as rules
-use Rattle.starlark_lexer.proofs.Ordered.{inside, len_most, end_most, escaped_most}
+use Rattle.starlark_lexer.proofs.Ordered.{inside, escaped_most}
+use Rattle.starlark_lexer.proofs.Gaps.{line_len_within, line_end_within}
 use Rattle.starlark_cutting.proofs.KeptBodies.{take_kept}
 use Rattle.starlark_cutting.proofs.KeptReads.{Fits, body_same, body_once}
 use Rattle.starlark_cutting.proofs.KeptLines.{Barred, Holds, lexeme_kept, closes_kept, escaped_kept, len_kept}
@@ -136,7 +137,7 @@ goes (rules.remark_line p rest more f e) h =
     (λ u v o is le at bar. (fresh_body p u v h f, remark_kept p rest more u v o f e is le (omega (arith, left q (remark_len rest more) u v at, ap length is, length-append u v))))
   where
     remark_fits : (rest more : List ℕ) → drop (leading rest) rest ≡ 35 ∷ more → remark_len rest more ≤ length rest
-    remark_fits rest more e = omega (arith, ap length e, length-drop (leading rest) rest, len_most more, end_most (drop (line_len more) more), length-drop (line_len more) more)
+    remark_fits rest more e = omega (arith, ap length e, length-drop (leading rest) rest, line_len_within more, line_end_within (drop (line_len more) more), length-drop (line_len more) more)
 goes (rules.last_line p rest closed f e c) h = tt
 goes (rules.tabbed p rest m t) h = tt
 goes (rules.deepens p rest m t d) h =
@@ -196,7 +197,7 @@ goes (rules.ends_line p rest f c d) h =
     (subst (λ m. BodyFits m u v) (sym c) tt, subst (λ w. Step p (w ++ o) (gives p 0 newline 1 1 true (w ++ o))) (sym s.1.0) (rules.ends_line p (s.0 ++ o) f c d)))
 goes (rules.remark p rest f c) h =
     let n = line_len rest in
-    kept p (35 ∷ rest) _ _ (1 + n) refl (omega (arith, len_most rest))
+    kept p (35 ∷ rest) _ _ (1 + n) refl (omega (arith, line_len_within rest))
     (λ u v o is le at bar.
     let s = first_kept 35 rest u v is (omega (arith, le)) in
     let short : n ≤ length s.0 = omega (arith, le, ap length s.1.0) in

@@ -13,12 +13,12 @@ use Rattle.starlark_lexer.specs.declared.literal.Piece.TheVariants.{Closing, Fie
 use Rattle.starlark_lexer.specs.declared.token.FStringQuote.{FStringQuote}
 use Rattle.starlark_lexer.specs.declared.token.FStringQuote.TheVariants.{Single, Double, TripleSingle, TripleDouble}
 use Rattle.starlark_lexer.specs.Literals.{mark, is_format, begins, goes_on, piece, later, by_piece, read, body}
-use Rattle.starlark_lexer.proofs.JoinedBodies.{Final}
+use Rattle.starlark_lexer.proofs.JoinedBodies.{Final, final_later}
 use Rattle.starlark_lexer.proofs.Bodies.{at_start, at_piece, later_more}
 use Rattle.starlark_lexer.proofs.Pieces.{cut_of}
 use Rattle.starlark_cutting.proofs.KeptBodies.{Within, Some_bytes}
-use Rattle.starlark_cutting.proofs.KeptReads.{extent, body_once, mark_piece, inner, inner_piece, inner_same, inner_some, final_later, extent_later}
-use Rattle.starlark_cutting.proofs.Clean.{clean}
+use Rattle.starlark_cutting.proofs.KeptReads.{extent, body_once, mark_piece, inner, inner_piece, inner_same, inner_some, extent_later}
+use Rattle.starlark_lexer.proofs.Clean.{clean}
 use Rattle.starlark_cutting.proofs.KeptLines.{Stops}
 use Rattle.starlark_cutting.proofs.KeptMarks.{marks_of}
 

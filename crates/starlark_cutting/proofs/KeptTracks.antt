@@ -16,12 +16,13 @@ use Rattle.starlark_lexer.specs.Lex as rules
 use Rattle.starlark_cutting.specs.Cutting.{indent_item}
 use Rattle.starlark_lexer.specs.Joining.{nested, outside, open_behind, is_indent, is_dedent, dedent_item}
 use Rattle.starlark_lexer.proofs.Joined.{Nest, nest_behind, nest_below, nest_field, nest_inside, outside_nil, none_counted, one_counted, dedents_out_opened, dedents_out_closed, dedents_open, literal_neutral}
-use Rattle.starlark_lexer.proofs.JoinedOn.{count_cons, dedents_opened, dedents_closed}
+use Rattle.starlark_lexer.proofs.JoinedOn.{count_cons}
 use Rattle.starlark_lexer.proofs.JoinedTokens.{token_neutral}
 use Rattle.starlark_lexer.proofs.Widths.{IsStack}
 use Rattle.starlark_lexer.proofs.Widths as widths
 use Rattle.starlark_lexer.proofs.Stacks.{same_closes, none_above}
 use Rattle.starlark_lexer.proofs.Rules.{deeper_shut, deeper_all}
+use Rattle.starlark_lexer.proofs.Dedents.{dedents_opened, dedents_closed}
 use Rattle.starlark_cutting.proofs.KeptMoves.{Fresh}
 
 -- ---- widths

@@ -1,5 +1,3 @@
-mod KeptNumbers
-mod Clean
 mod KeptBodies
 mod KeptReads
 mod KeptLines

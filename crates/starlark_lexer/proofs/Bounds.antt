@@ -2,17 +2,15 @@
 use Rattle.std.proofs.Common.{◌≡◌, ◌<◌, ◌≤◌, ℕ, ◌+◌, ◌-◌, Bool, true, false, cond, ◌&&◌, ◌||◌, List, [], ◌∷◌, length, take, drop, get_or, refl, ap, sym, ◌∙◌, arith, zero, suc, inl, inr, eqb, ltb, subst, length-drop, get_or-drop, one-add, IsUtf8}
 use Rattle.std.specs.Prelude.{Option, Some, None}
 use Rattle.std.specs.Str.{IsCharBoundary, bytes_eq}
-use Rattle.std.proofs.lemmas.Bool.{cases_Bool, cases_lt, false≢true}
+use Rattle.std.proofs.lemmas.Bool.{cases_Bool, false≢true, and_parts, eqb-true}
 use Rattle.std.proofs.lemmas.Bool.Decides.{nat_tests}
 use Rattle.std.proofs.lemmas.Slice.Eq.{bytes_eq-Decides}
 use Rattle.std.proofs.lemmas.List.{length-take-le, get_or-take, drop-drop}
 use Rattle.std.proofs.lemmas.Str.{IsUtf8-drop, IsCharBoundary-from_rest, IsCharBoundary-start, IsCharBoundary-after_ascii, IsCharBoundary-before_ascii, IsCharBoundary-end}
-use Rattle.std.proofs.lemmas.List.Sums.{prefix_len_passes, prefix_len_stops, prefix_len-le-length}
+use Rattle.std.proofs.lemmas.List.Sums.{prefix_len_stops, prefix_len-le-length}
 use Rattle.std.specs.List.{prefix_len}
 use Rattle.std.specs.Char.{is_digit, is_ascii_digit}
 use Rattle.starlark_lexer.specs.declared.literal.Form.{Form}
-use Rattle.starlark_lexer.specs.declared.literal.Sort.{Sort}
-use Rattle.starlark_lexer.specs.declared.literal.Sort.TheVariants as sort
 use Rattle.starlark_lexer.specs.declared.literal.Ending.{Ending}
 use Rattle.starlark_lexer.specs.declared.literal.Ending.TheVariants as ending
 use Rattle.starlark_lexer.specs.declared.words.Operator.{Operator}
@@ -23,50 +21,30 @@ use Rattle.starlark_lexer.specs.declared.scan.Found.{Found}
 use Rattle.starlark_lexer.specs.declared.scan.Found.TheVariants as found
 use Rattle.starlark_lexer.specs.declared.scan.Mode.{Mode}
 use Rattle.starlark_lexer.specs.declared.scan.Turn.TheVariants as turns
-use Rattle.starlark_lexer.specs.Literals.{body, quotes, is_format, is_bytes, is_mark}
+use Rattle.starlark_lexer.specs.Literals.{body, quotes, is_format, is_mark}
 use Rattle.starlark_lexer.specs.Fronts.{opening_front}
 use Rattle.starlark_lexer.specs.Classes.{is_blank, is_word_byte, begins_word, begins_digit, is_continuation, operators, lookup, digits_len, behind_digits, radix_of, base_of, line_end, line_len, begins_line, leading, blanks, has_tab, spaces, is_open, closes_field, is_zeros, is_reserved, keyword_of}
 use Rattle.starlark_lexer.specs.Scan.{scan, scan_more, by_front, first_row, here, text_turn, literal_turn, opens_turn, at_ground, turn_of, line_from, line_turn, fits, kept, pass, gap, more_than, signed_len, exponent_len, fraction_len, tail_len, based_len, decimal, decimal_scan, number_scan}
 use Rattle.starlark_lexer.specs.Scan as scans
 use Rattle.starlark_lexer.specs.Turns.{Bounds, Slices}
 use Rattle.starlark_lexer.proofs.Gaps.{pass_within, gap_step, gap_stop}
-use Rattle.starlark_lexer.proofs.Tables.{Row, Right, operators_right, both}
+use Rattle.starlark_lexer.proofs.Tables.{Row, Right, operators_right}
 use Rattle.starlark_lexer.proofs.Openings.{opening_some, opening_last}
 use Rattle.starlark_lexer.proofs.Bodies.{IsBounded, body_bounds}
+use Rattle.starlark_lexer.proofs.Ascii.{word_low, blank_low, boundary_after, run_boundary}
+use Rattle.starlark_lexer.proofs.Pieces.{format_no_bytes}
 
 -- ---- between characters
-
-behind : (xs : List ℕ) (n : ℕ) → IsUtf8 xs → 0 < n → n ≤ length xs → get_or xs (n - 1) 0 < 128 → IsCharBoundary xs n
-behind xs n utf8 pos le ascii =
-    let e : n - 1 + 1 ≡ n = omega arith in
-    subst (IsCharBoundary xs) e (IsCharBoundary-after_ascii xs (n - 1) utf8 (omega arith) ascii)
-
--- behind a run of ASCII
-run_boundary : (p : ℕ → Bool) (xs : List ℕ) → ((b : ℕ) → p b ≡ true → b < 128) → IsUtf8 xs → IsCharBoundary xs (prefix_len p xs)
-run_boundary p xs ascii utf8 =
-    elim (cases_lt 0 (prefix_len p xs)) [
-      | inl some ↦ behind xs (prefix_len p xs) utf8 some (prefix_len-le-length p xs) (ascii (get_or xs (prefix_len p xs - 1) 0) (prefix_len_passes p xs (prefix_len p xs - 1) 0 (omega arith)))
-      | inr none ↦ let e : 0 ≡ prefix_len p xs = omega arith in subst (IsCharBoundary xs) e (IsCharBoundary-start xs utf8)
-    ]
-
-word_ascii : (b : ℕ) → is_word_byte b ≡ true → b < 128
-word_ascii b h = grind (arith, nat_tests)
 
 digit_ascii : (b : ℕ) → is_ascii_digit b ≡ true → b < 128
 digit_ascii b h = grind (arith, nat_tests)
 
-blank_ascii : (b : ℕ) → is_blank b ≡ true → b < 128
-blank_ascii b h = grind (arith, nat_tests)
-
 mark_ascii : (b : ℕ) → is_mark b ≡ true → b < 128
 mark_ascii b h = grind (arith, nat_tests)
 
-equal_from : (a b : ℕ) → eqb a b ≡ true → a ≡ b
-equal_from a b h = grind (arith, nat_tests)
-
 -- behind one ASCII byte
 pub one_boundary : (b : ℕ) (bs : List ℕ) → IsUtf8 (b ∷ bs) → b < 128 → IsCharBoundary (b ∷ bs) 1
-one_boundary b bs utf8 ascii = behind (b ∷ bs) 1 utf8 (omega arith) (omega arith) ascii
+one_boundary b bs utf8 ascii = boundary_after (b ∷ bs) 1 utf8 (omega arith) (omega arith) ascii
 
 rest_utf8 : (b : ℕ) (bs : List ℕ) → IsUtf8 (b ∷ bs) → b < 128 → IsUtf8 bs
 rest_utf8 b bs utf8 ascii = IsUtf8-drop (b ∷ bs) 1 utf8 (one_boundary b bs utf8 ascii)
@@ -129,7 +107,7 @@ fraction_boundary (b ∷ bs) utf8 =
     elim (cases_Bool (eqb b 46)) [
       | inr e ↦ rw e (IsCharBoundary-start (b ∷ bs) utf8)
       | inl e ↦
-          let a : b < 128 = omega (arith, equal_from b 46 e) in
+          let a : b < 128 = omega (arith, eqb-true b 46 e) in
           rw e (past b bs (digits_len bs + exponent_len (behind_digits bs)) utf8 a (λ u. run_more bs (exponent_len (behind_digits bs)) u (exponent_boundary (behind_digits bs))))
     ]
 
@@ -174,7 +152,7 @@ based_boundary b (c ∷ bs) utf8 =
         | inr f ↦ rw (e, f) (λ h. absurd (omega (arith, h)))
         | inl f ↦ rw (e, f) (λ h.
             let l = letter_ascii c f in
-            let a : b < 128 = omega (arith, equal_from b 48 e) in
+            let a : b < 128 = omega (arith, eqb-true b 48 e) in
             let n = prefix_len (λ d. is_digit d (radix_of c)) bs in
             let run : IsUtf8 bs → IsCharBoundary bs n = λ u. run_boundary (λ d. is_digit d (radix_of c)) bs (λ d h. radix_ascii (radix_of c) d h l.1.1) u in
             let two : 1 + (1 + n) ≡ n + 2 = omega arith in
@@ -231,7 +209,7 @@ all_last (r ∷ rs) = last_ascii r.0 && all_last rs
 lookup_last : (rs : List Row) (w : List ℕ) (o : Operator) → all_last rs ≡ true → lookup rs w ≡ Some o → last_ascii w ≡ true
 lookup_last [] w o h = λ e. cc
 lookup_last (r ∷ rs) w o h =
-    let x = both (last_ascii r.0) (all_last rs) h in
+    let x = and_parts (last_ascii r.0) (all_last rs) h in
     elim (cases_Bool (bytes_eq r.0 w)) [
       | inl t ↦ λ e. ap last_ascii (sym ((bytes_eq-Decides r.0 w).0 t)) ∙ x.0
       | inr t ↦ rw t (lookup_last rs w o x.1)
@@ -245,7 +223,7 @@ operator_ends b bs (Some x) u a h =
     let len = length-take-le n (b ∷ bs) h.within in
     let low : get_or (take n (b ∷ bs)) (length (take n (b ∷ bs)) - 1) 0 < 128 = grind (arith, nat_tests) in
     let at : get_or (take n (b ∷ bs)) (length (take n (b ∷ bs)) - 1) 0 ≡ get_or (b ∷ bs) (n - 1) 0 = ap (λ k. get_or (take n (b ∷ bs)) (k - 1) 0) len ∙ get_or-take n (b ∷ bs) (n - 1) 0 (omega (arith, h.nonempty)) in
-    (behind (b ∷ bs) n u h.nonempty h.within (subst (λ v. v < 128) at low), tt)
+    (boundary_after (b ∷ bs) n u h.nonempty h.within (subst (λ v. v < 128) at low), tt)
 
 word_ends : (xs w : List ℕ) (n : ℕ) → IsCharBoundary xs n → Ends xs (scans.word w, n)
 word_ends xs w n h = by_keyword_ends (keyword_of w)
@@ -261,7 +239,7 @@ more_ends : (b : ℕ) (bs : List ℕ) → IsUtf8 (b ∷ bs) → Ends (b ∷ bs) 
 unfolding scan_more
 more_ends b bs u =
     elim (cases_Bool (begins_word b)) [
-      | inl w ↦ rw w (word_ends (b ∷ bs) (take (prefix_len is_word_byte (b ∷ bs)) (b ∷ bs)) (prefix_len is_word_byte (b ∷ bs)) (run_boundary is_word_byte (b ∷ bs) word_ascii u))
+      | inl w ↦ rw w (word_ends (b ∷ bs) (take (prefix_len is_word_byte (b ∷ bs)) (b ∷ bs)) (prefix_len is_word_byte (b ∷ bs)) (run_boundary is_word_byte (b ∷ bs) word_low u))
       | inr w ↦ rw w (
           elim (cases_Bool (is_ascii_digit b)) [
             | inl d ↦ rw d (number_ends b bs u)
@@ -285,7 +263,7 @@ by_front_ends b bs (Some x) e u =
     let len = length-take-le n (b ∷ bs) h.within in
     let low = mark_ascii (get_or (take n (b ∷ bs)) (length (take n (b ∷ bs)) - 1) 0) (opening_last (take n (b ∷ bs)) x.0 h.means) in
     let at : get_or (take n (b ∷ bs)) (length (take n (b ∷ bs)) - 1) 0 ≡ get_or (b ∷ bs) (n - 1) 0 = ap (λ k. get_or (take n (b ∷ bs)) (k - 1) 0) len ∙ get_or-take n (b ∷ bs) (n - 1) 0 (omega (arith, h.nonempty)) in
-    behind (b ∷ bs) n u h.nonempty h.within (subst (λ v. v < 128) at low)
+    boundary_after (b ∷ bs) n u h.nonempty h.within (subst (λ v. v < 128) at low)
 
 pub scan_ends : (b : ℕ) (bs : List ℕ) → IsUtf8 (b ∷ bs) → Ends (b ∷ bs) (scan (b ∷ bs))
 scan_ends b bs u = by_front_ends b bs (opening_front (b ∷ bs)) refl u
@@ -358,10 +336,10 @@ unfolding line_end
 line_end_boundary [] u = IsCharBoundary-start [] u
 line_end_boundary (b ∷ bs) u =
     elim (cases_Bool (eqb b 10)) [
-      | inl e ↦ rw e (let m : b < 128 = omega (arith, equal_from b 10 e) in one_boundary b bs u m)
+      | inl e ↦ rw e (let m : b < 128 = omega (arith, eqb-true b 10 e) in one_boundary b bs u m)
       | inr e ↦ rw e (elim (cases_Bool (eqb b 13)) [
         | inr f ↦ rw f (IsCharBoundary-start (b ∷ bs) u)
-        | inl f ↦ rw f (let m : b < 128 = omega (arith, equal_from b 13 f) in by_line b bs u m)
+        | inl f ↦ rw f (let m : b < 128 = omega (arith, eqb-true b 13 f) in by_line b bs u m)
       ])
     ]
   where
@@ -369,7 +347,7 @@ line_end_boundary (b ∷ bs) u =
     by_line b [] u m = IsCharBoundary-start (b ∷ []) u
     by_line b (c ∷ bs) u m =
         elim (cases_Bool (eqb c 10)) [
-          | inl e ↦ rw e (let k : c < 128 = omega (arith, equal_from c 10 e) in past b (c ∷ bs) 1 u m (λ v. one_boundary c bs v k))
+          | inl e ↦ rw e (let k : c < 128 = omega (arith, eqb-true c 10 e) in past b (c ∷ bs) 1 u m (λ v. one_boundary c bs v k))
           | inr e ↦ rw e (IsCharBoundary-start (b ∷ c ∷ bs) u)
         ]
 
@@ -397,14 +375,14 @@ unfolding here
 here_bounds m [] u = tt
 here_bounds m (b ∷ bs) u =
     elim (cases_Bool (eqb b 10)) [
-      | inl e ↦ rw e (newline_bounds (b ∷ bs) 0 b bs kind.Newline true u (omega arith) refl (omega (arith, equal_from b 10 e)) tt)
+      | inl e ↦ rw e (newline_bounds (b ∷ bs) 0 b bs kind.Newline true u (omega arith) refl (omega (arith, eqb-true b 10 e)) tt)
       | inr e ↦ rw e (
           elim (cases_Bool (eqb b 35)) [
-            | inl f ↦ rw f (remark_here b bs u (omega (arith, equal_from b 35 f)))
+            | inl f ↦ rw f (remark_here b bs u (omega (arith, eqb-true b 35 f)))
             | inr f ↦ rw f (
                 elim (cases_Bool (at_ground m && closes_field (b ∷ bs))) [
                   | inl z ↦
-                      let a = closing_ascii b bs (both (at_ground m) (closes_field (b ∷ bs)) z).1 in
+                      let a = closing_ascii b bs (and_parts (at_ground m) (closes_field (b ∷ bs)) z).1 in
                       rw z (elim (cases_Bool (eqb b 125)) [ inl y ↦ rw y (one_boundary b bs u a) | inr y ↦ rw y (newline_bounds (b ∷ bs) 0 b bs kind.Bang false u (omega arith) refl a tt) ])
                   | inr z ↦ rw z (found_bounds (b ∷ bs) (scan (b ∷ bs)) u (scan_ends b bs u))
                 ])
@@ -419,23 +397,18 @@ here_bounds m (b ∷ bs) u =
 pub text_bounds : (f : Form) (rest : List ℕ) → is_format f.sort ≡ true → IsUtf8 rest → Bounds rest (text_turn f (body f 0 rest))
 text_bounds f rest format u = by_ending (body f 0 rest) (body_bounds f rest u)
   where
-    no_bytes : (t : Sort) → is_format t ≡ true → is_bytes t ≡ false
-    no_bytes sort.Text h = refl
-    no_bytes sort.Bytes h = absurd (false≢true h)
-    no_bytes sort.Format h = refl
-
     by_ending : (x : Ending) → IsBounded f rest x → Bounds rest (text_turn f x)
     by_ending (ending.Closed zero) h = let z : 0 + quotes f.quote ≡ quotes f.quote = omega arith in subst (IsCharBoundary rest) z h.1
-    by_ending (ending.Closed (suc k)) h = whole_bounds rest (kind.Text f) (suc k) false u h.0 (no_bytes f.sort format)
+    by_ending (ending.Closed (suc k)) h = whole_bounds rest (kind.Text f) (suc k) false u h.0 (format_no_bytes f.sort format)
     by_ending (ending.Field zero) h = let z : 0 + 1 ≡ 1 = omega arith in subst (IsCharBoundary rest) z h.1
-    by_ending (ending.Field (suc k)) h = whole_bounds rest (kind.Text f) (suc k) false u h.0 (no_bytes f.sort format)
+    by_ending (ending.Field (suc k)) h = whole_bounds rest (kind.Text f) (suc k) false u h.0 (format_no_bytes f.sort format)
     by_ending (ending.Unfinished k) h = h
     by_ending (ending.Escape k m) h = h
 
 -- ---- a line
 
 pub leading_boundary : (rest : List ℕ) → IsUtf8 rest → IsCharBoundary rest (leading rest)
-leading_boundary rest u = run_boundary is_blank rest blank_ascii u
+leading_boundary rest u = run_boundary is_blank rest blank_low u
 
 fits_bounds : (rest ws : List ℕ) (w : ℕ) → IsUtf8 rest → Bounds rest (fits ws w (leading rest))
 unfolding fits
@@ -453,11 +426,11 @@ line_from_bounds ws rest (b ∷ bs) u e =
     let g = leading rest in
     let h = leading_boundary rest u in
     elim (cases_Bool (eqb b 10)) [
-      | inl t ↦ rw t (newline_bounds rest g b bs kind.Newline true u h.0 e (omega (arith, equal_from b 10 t)) tt)
+      | inl t ↦ rw t (newline_bounds rest g b bs kind.Newline true u h.0 e (omega (arith, eqb-true b 10 t)) tt)
       | inr t ↦ rw t (
           elim (cases_Bool (eqb b 35)) [
             | inl f ↦ rw f (
-                let a : b < 128 = omega (arith, equal_from b 35 f) in
+                let a : b < 128 = omega (arith, eqb-true b 35 f) in
                 let v : IsUtf8 bs = rest_utf8 b bs (subst IsUtf8 e (IsUtf8-drop rest g u h)) a in
                 remark_bounds rest g b bs (line_end (drop (line_len bs) bs)) true u h e a (line_end_boundary (drop (line_len bs) bs) (IsUtf8-drop bs (line_len bs) v (line_boundary bs))))
             | inr f ↦ rw f (elim (cases_Bool (has_tab (blanks rest))) [ inl t ↦ rw t tt | inr t ↦ rw t (fits_bounds rest ws (spaces (blanks rest)) u) ])
@@ -474,14 +447,14 @@ unfolding pass
 pass_boundary j [] u = IsCharBoundary-start [] u
 pass_boundary j (b ∷ bs) u =
     elim (cases_Bool (is_blank b)) [
-      | inl e ↦ rw e (one_boundary b bs u (blank_ascii b e))
+      | inl e ↦ rw e (one_boundary b bs u (blank_low b e))
       | inr e ↦ rw e (
           elim (cases_Bool (eqb b 10)) [
-            | inl f ↦ let m : b < 128 = omega (arith, equal_from b 10 f) in rw f (elim (cases_Bool j) [ inl k ↦ rw k (one_boundary b bs u m) | inr k ↦ rw k (IsCharBoundary-start (b ∷ bs) u) ])
+            | inl f ↦ let m : b < 128 = omega (arith, eqb-true b 10 f) in rw f (elim (cases_Bool j) [ inl k ↦ rw k (one_boundary b bs u m) | inr k ↦ rw k (IsCharBoundary-start (b ∷ bs) u) ])
             | inr f ↦ rw f (elim (cases_Bool (eqb b 92)) [
               | inr g ↦ rw g (IsCharBoundary-start (b ∷ bs) u)
               | inl g ↦
-                  let m : b < 128 = omega (arith, equal_from b 92 g) in
+                  let m : b < 128 = omega (arith, eqb-true b 92 g) in
                   rw g (elim (cases_Bool (eqb (line_end bs) 0)) [
                     | inl z ↦ rw z (IsCharBoundary-start (b ∷ bs) u)
                     | inr z ↦ let s : 1 + line_end bs ≡ line_end bs + 1 = omega arith in rw (z, sym s) (past b bs (line_end bs) u m (line_end_boundary bs))

@@ -2,7 +2,7 @@
 use Rattle.std.proofs.Common.{◌≡◌, ◌<◌, ℕ, ◌+◌, Bool, true, false, ◌&&◌, List, [], ◌∷◌, ◌++◌, length, take, drop, refl, ap, sym, ◌∙◌, arith, zero, suc, inl, inr, eqb, ltb, subst, IsUtf8}
 use Rattle.std.specs.Prelude.{Option, None}
 use Rattle.std.specs.Str.{IsCharBoundary}
-use Rattle.std.proofs.lemmas.Bool.{cases_Bool}
+use Rattle.std.proofs.lemmas.Bool.{cases_Bool, or_parts}
 use Rattle.std.proofs.lemmas.Bool.Decides.{nat_tests}
 use Rattle.std.proofs.lemmas.List.{drop-drop}
 use Rattle.std.proofs.lemmas.Str.{IsUtf8-drop, IsCharBoundary-from_rest, IsCharBoundary-start, IsCharBoundary-end}
@@ -23,7 +23,7 @@ use Rattle.starlark_lexer.specs.Scan.{scan}
 use Rattle.starlark_lexer.proofs.Bodies.{IsBounded, body_bounds}
 use Rattle.starlark_lexer.proofs.Bounds.{Ends, scan_ends, one_boundary, past, leading_boundary, line_boundary, line_end_boundary, newline_bounds, remark_bounds}
 use Rattle.starlark_lexer.proofs.Scanned.{scan_lexeme}
-use Rattle.starlark_lexer.proofs.Rules.{one_length, stands, left_part, right_part}
+use Rattle.starlark_lexer.proofs.Rules.{one_length, stands}
 
 -- ---- a lexeme
 
@@ -36,10 +36,9 @@ lexeme_boundary : (rest : List ℕ) (n : ℕ) (m : Meaning) → IsLexeme rest n 
 lexeme_boundary [] n m h u = absurd (omega (arith, h.nonempty, h.within))
 lexeme_boundary (b ∷ bs) n m h u =
     let s = stands b bs n m h in
-    let k = left_part (is_blank b) _ s in
-    let l = left_part (eqb b 10) (eqb b 35) (right_part (is_blank b) _ s) in
-    let r = right_part (eqb b 10) (eqb b 35) (right_part (is_blank b) _ s) in
-    let e : (scan (b ∷ bs)).1 ≡ n = one_length (b ∷ bs) (scan (b ∷ bs)).1 n _ m (scan_lexeme b bs k l r) h in
+    let k = or_parts (is_blank b) _ s in
+    let l = or_parts (eqb b 10) (eqb b 35) k.1 in
+    let e : (scan (b ∷ bs)).1 ≡ n = one_length (b ∷ bs) (scan (b ∷ bs)).1 n _ m (scan_lexeme b bs k.0 l.0 l.1) h in
     subst (IsCharBoundary (b ∷ bs)) e (ends_found (b ∷ bs) (scan (b ∷ bs)) (scan_ends b bs u))
 
 escaped_boundary : (xs : List ℕ) → IsUtf8 xs → IsCharBoundary xs (escaped xs)

@@ -1,7 +1,7 @@
 -- Between items stand only blanks, line feeds and escaped line ends.
 use Rattle.std.proofs.Common.{◌≡◌, ◌<◌, ◌≤◌, ℕ, ◌+◌, ◌-◌, Bool, true, false, ◌&&◌, List, [], ◌∷◌, ◌++◌, length, drop, refl, ap, sym, ◌∙◌, arith, zero, suc, inl, inr, eqb, ltb, subst, one-add, length-drop}
 use Rattle.std.specs.Prelude.{Option, Some, None}
-use Rattle.std.proofs.lemmas.Bool.{cases_Bool, cases_lt, false≢true}
+use Rattle.std.proofs.lemmas.Bool.{cases_Bool, cases_lt, false≢true, and_parts}
 use Rattle.std.proofs.lemmas.Bool.Decides.{nat_tests}
 use Rattle.std.proofs.lemmas.List.{drop-drop}
 use Rattle.std.proofs.lemmas.List.Sums.{prefix_len-le-length}
@@ -12,7 +12,8 @@ use Rattle.starlark_lexer.specs.Classes.{is_blank, leading, line_end, line_len, 
 use Rattle.starlark_lexer.specs.Lex.{Mode, Past, Move, Step, Lex, on, over, start, moved, gives, deepened, fitted, turns, goes_on, is_over}
 use Rattle.starlark_lexer.specs.Lex as rules
 use Rattle.starlark_lexer.specs.Order.{begins_gap, IsPassed, Covers}
-use Rattle.starlark_lexer.proofs.Ordered.{inside, short, len_most, end_most, escaped_most}
+use Rattle.starlark_lexer.proofs.Ordered.{inside, short, escaped_most}
+use Rattle.starlark_lexer.proofs.Gaps.{line_end_within, line_len_within}
 
 -- ---- stretches that are passed over
 
@@ -44,24 +45,20 @@ line_feed_gap b bs h = let n : is_blank b ≡ false = grind (arith, nat_tests) i
 return_gap : (b : ℕ) (bs : List ℕ) → eqb b 13 ≡ true → begins_gap (b ∷ bs) ≡ true
 return_gap b bs h = let n : is_blank b ≡ true = grind (arith, nat_tests) in rw n refl
 
-both : (a b : Bool) → (a && b) ≡ true → (a ≡ true) × (b ≡ true)
-both true b h = (refl, h)
-both false b h = absurd (false≢true h)
-
 line_end_gap : (xs : List ℕ) (k : ℕ) → k < line_end xs → begins_gap (drop k xs) ≡ true
 unfolding line_end
 line_end_gap [] k lt = absurd (omega (arith, lt))
 line_end_gap (b ∷ bs) zero lt = elim (cases_Bool (eqb b 10)) [
   | inl t ↦ line_feed_gap b bs t
   | inr f ↦ elim (cases_Bool (eqb b 13 && begins_line bs)) [
-    | inl g ↦ return_gap b bs (both _ _ g).0
+    | inl g ↦ return_gap b bs (and_parts _ _ g).0
     | inr g ↦ absurd (let n : 0 < 0 = rw (f, g) at lt in omega (arith, n))
   ]
 ]
 line_end_gap (b ∷ bs) (suc zero) lt = elim (cases_Bool (eqb b 10)) [
   | inl t ↦ absurd (let n : 1 < 1 = rw t at lt in omega (arith, n))
   | inr f ↦ elim (cases_Bool (eqb b 13 && begins_line bs)) [
-    | inl g ↦ second bs (both _ _ g).1
+    | inl g ↦ second bs (and_parts _ _ g).1
     | inr g ↦ absurd (let n : 1 < 0 = rw (f, g) at lt in omega (arith, n))
   ]
 ]
@@ -79,7 +76,7 @@ line_end_gap (b ∷ bs) (suc (suc k)) lt = elim (cases_Bool (eqb b 10)) [
 
 escape_gap : (b : ℕ) (bs : List ℕ) → (eqb b 92 && ltb 0 (line_end bs)) ≡ true → begins_gap (b ∷ bs) ≡ true
 escape_gap b bs h =
-    let e = (both (eqb b 92) (ltb 0 (line_end bs)) h).0 in
+    let e = (and_parts (eqb b 92) (ltb 0 (line_end bs)) h).0 in
     let n : is_blank b ≡ false = grind (arith, nat_tests) in
     let m : eqb b 10 ≡ false = grind (arith, nat_tests) in
     rw (n, m) h
@@ -184,7 +181,7 @@ steps text (rules.remark_line p rest more f e) at =
     let n = line_len more in
     let z = line_end (drop n more) in
     let s = leading rest + (1 + n) in
-    let fits : leading rest + (1 + n) + z ≤ length rest = omega (arith, short rest more 35 e, len_most more, end_most (drop n more), length-drop n more) in
+    let fits : leading rest + (1 + n) + z ≤ length rest = omega (arith, short rest more 35 e, line_len_within more, line_end_within (drop n more), length-drop n more) in
     let cut : drop s rest ≡ drop n more = sym (drop-drop (1 + n) (leading rest) rest) ∙ ap (drop (1 + n)) e ∙ (let v : 1 + n ≡ suc n = one-add n in ap (λ i. drop i (35 ∷ more)) v) in
     let behind : IsPassed text (p.place + s) (p.place + s + z) = passed_on text p rest at s z (λ k lt. ap (λ xs. begins_gap (drop k xs)) cut ∙ line_end_gap (drop n more) k lt) in
     let i : p.place + s ≡ p.place + leading rest + (1 + n) = omega arith in
@@ -201,7 +198,7 @@ steps text (rules.escapes p rest f c d) at = passes_covers text p rest at (escap
 steps text (rules.joins p rest f d) at = passes_covers text p (10 ∷ rest) at 1 (omega arith) (passed text p (10 ∷ rest) at 1 (one_gap 10 rest refl))
 steps text (rules.ends_line p rest f c d) at = gives_covers text p (10 ∷ rest) at 0 _ 1 1 true (omega arith) (none_passed text _ _ (omega arith)) (none_passed text _ _ (omega arith))
 steps text (rules.remark p rest f c) at =
-    gives_covers text p (35 ∷ rest) at 0 _ (1 + line_len rest) (1 + line_len rest) false (omega (arith, len_most rest)) (none_passed text _ _ (omega arith)) (none_passed text _ _ (omega arith))
+    gives_covers text p (35 ∷ rest) at 0 _ (1 + line_len rest) (1 + line_len rest) false (omega (arith, line_len_within rest)) (none_passed text _ _ (omega arith)) (none_passed text _ _ (omega arith))
 steps text (rules.lexeme p rest n x v l) at = gives_covers text p rest at 0 x n n false l.within (none_passed text _ _ (omega arith)) (none_passed text _ _ (omega arith))
 steps text (rules.faults p rest n e v l) at = tt
 steps text (rules.ends_text p closed f c d) at =

@@ -8,8 +8,6 @@ use Rattle.std.specs.Char.{is_ascii_digit}
 use Rattle.starlark_lexer.specs.declared.literal.Form.{Form}
 use Rattle.starlark_lexer.specs.declared.literal.Ending.{Ending}
 use Rattle.starlark_lexer.specs.declared.literal.Ending.TheVariants as ending
-use Rattle.starlark_lexer.specs.declared.token.FStringQuote.{FStringQuote}
-use Rattle.starlark_lexer.specs.declared.token.FStringQuote.TheVariants as marks
 use Rattle.starlark_lexer.specs.declared.words.Operator.{Operator}
 use Rattle.starlark_lexer.specs.declared.scan.Class.TheVariants as class
 use Rattle.starlark_lexer.specs.declared.scan.Found.{Found}
@@ -27,7 +25,7 @@ use Rattle.starlark_lexer.proofs.Runs.{run_nonempty}
 use Rattle.starlark_lexer.proofs.Gaps.{line_end_within, line_len_within}
 use Rattle.starlark_lexer.proofs.Longest.{begins_goes, number_scanned, pointed_by}
 use Rattle.starlark_lexer.proofs.Tables.{Right, operators_right}
-use Rattle.starlark_lexer.proofs.Openings.{opening_some}
+use Rattle.starlark_lexer.proofs.Openings.{quotes_some, opening_some}
 use Rattle.starlark_lexer.proofs.Bodies.{IsInside, body_within}
 
 abbrev pub IsFront : List ℕ → ℕ → Type 0
@@ -68,12 +66,6 @@ pub scan_front : (b : ℕ) (bs : List ℕ) → IsFront (b ∷ bs) (scan (b ∷ b
 scan_front b bs = by_front_front b bs (opening_front (b ∷ bs)) refl
 
 -- ---- literals
-
-pub quotes_some : (q : FStringQuote) → 0 < quotes q
-quotes_some marks.Single = omega arith
-quotes_some marks.Double = omega arith
-quotes_some marks.TripleSingle = omega arith
-quotes_some marks.TripleDouble = omega arith
 
 within_whole : (rest : List ℕ) (n : ℕ) → 0 < n → n ≤ length rest → IsWithin rest 0 n n
 within_whole rest n pos le = record { some = pos; fits = omega arith; within = le }

@@ -1,17 +1,14 @@
 -- The digits at the front of a text.
-use Rattle.std.proofs.Common.{◌≡◌, ◌<◌, ◌≤◌, ℕ, ◌+◌, ◌*◌, ◌^◌, true, ltb, List, length, take, drop, get_or, ap, sym, ◌∙◌, arith}
-use Rattle.std.proofs.lemmas.Bool.Decides.{nat_tests}
+use Rattle.std.proofs.Common.{◌≡◌, ◌<◌, ◌≤◌, ℕ, ◌+◌, ◌*◌, ◌^◌, List, length, take, drop, get_or, ap, sym, ◌∙◌, arith}
 use Rattle.std.proofs.lemmas.Int.Digits.{digits_value_more, digits_value-lt, digits_more}
 use Rattle.std.proofs.lemmas.List.{length-take, length-take-le, take-take}
 use Rattle.std.proofs.lemmas.List.Sums.{prefix_len-drop_yes, prefix_len-le-length}
 use Rattle.std.proofs.Math.Nat.{pow-le-pow_left, pow-le-pow_right}
+use Rattle.std.proofs.lemmas.Bool.{lt-ltb}
 use Rattle.std.specs.Char.{is_digit, digit_value}
 use Rattle.std.specs.List.{prefix_len}
 use Rattle.std.specs.Str.Parse.{digits_value, AllDigits}
 use Rattle.starlark_lexer.specs.Literals.{digits, digits_of}
-
-below : (a b : ℕ) → a < b → ltb a b ≡ true
-below a b h = grind (arith, nat_tests)
 
 -- at most eight digits of a base of at most 16
 pub small_value : (base n : ℕ) (bs : List ℕ) → 2 ≤ base → base ≤ 16 → n ≤ 8 → n ≤ length bs → AllDigits base (take n bs) → digits_value base (take n bs) < 4294967296
@@ -35,7 +32,7 @@ one_more base bs i v d some low short lt all e h de =
     let same : v * base + d ≡ digits_value base (take (i + 1) bs) = (λ j. e j * base + de j) ∙ sym (digits_value_more base bs i lt) in
     let more : AllDigits base (take (i + 1) bs) = digits_more base bs i lt all h in
     let less = small_value base (i + 1) bs some low (omega (arith, short, lt)) (omega (arith, lt)) more in
-    record { value = same; digits = more; len = prefix_len-drop_yes (λ c. is_digit c base) bs i 0 lt (below (digit_value (get_or bs i 0)) base h); small = omega (arith, same, less) }
+    record { value = same; digits = more; len = prefix_len-drop_yes (λ c. is_digit c base) bs i 0 lt (lt-ltb (digit_value (get_or bs i 0)) base h); small = omega (arith, same, less) }
 
 -- digits among the first bytes
 same_digits : (base most : ℕ) (bs : List ℕ) → digits_value base (take (digits base most bs) (take most bs)) ≡ digits_of base (digits base most bs) bs

@@ -1,7 +1,7 @@
 -- A word that no fixed one begins like, or that has another length, is none of them.
 use Rattle.std.proofs.Common.{◌≡◌, ℕ, Bool, true, false, ◌&&◌, List, [], ◌∷◌, map, refl, ap, sym, ◌∙◌, inl, inr}
 use Rattle.std.specs.Prelude.{None}
-use Rattle.std.proofs.lemmas.Bool.{cases_Bool, false≢true}
+use Rattle.std.proofs.lemmas.Bool.{cases_Bool, false≢true, and_parts}
 use Rattle.std.proofs.lemmas.Slice.Eq.{bytes_eq-Decides}
 use Rattle.std.specs.List.{list_any}
 use Rattle.std.specs.Str.{bytes_eq}
@@ -12,7 +12,6 @@ use Rattle.starlark_lexer.specs.declared.scan.Kind.TheVariants as kind
 use Rattle.starlark_lexer.specs.Classes.{lookup, keyword_of, is_reserved}
 use Rattle.starlark_lexer.specs.Scan.{word}
 use Rattle.starlark_lexer.specs.FirstBytes.{may_be_fixed}
-use Rattle.starlark_lexer.proofs.Tables.{both}
 
 other_text : (r w : List ℕ) → may_be_fixed r ≡ true → may_be_fixed w ≡ false → bytes_eq r w ≡ false
 other_text r w h e =
@@ -24,7 +23,7 @@ all_fixed (r ∷ rs) = may_be_fixed r.0 && all_fixed rs
 
 not_found : (rs : List (List ℕ × Keyword)) (w : List ℕ) → all_fixed rs ≡ true → may_be_fixed w ≡ false → lookup rs w ≡ None
 not_found [] w h e = refl
-not_found (r ∷ rs) w h e = let x = both (may_be_fixed r.0) (all_fixed rs) h in let n = other_text r.0 w x.0 e in rw n (not_found rs w x.1 e)
+not_found (r ∷ rs) w h e = let x = and_parts (may_be_fixed r.0) (all_fixed rs) h in let n = other_text r.0 w x.0 e in rw n (not_found rs w x.1 e)
 
 module _ {X : Type 0} (text : X → List ℕ) where
   abbrev all_kept : List X → Bool
@@ -33,7 +32,7 @@ module _ {X : Type 0} (text : X → List ℕ) where
 
   not_kept : (ks : List X) (w : List ℕ) → all_kept ks ≡ true → may_be_fixed w ≡ false → list_any (λ k. bytes_eq (text k) w) ks ≡ false
   not_kept [] w h e = refl
-  not_kept (k ∷ ks) w h e = let x = both (may_be_fixed (text k)) (all_kept ks) h in let n = other_text (text k) w x.0 e in rw n (not_kept ks w x.1 e)
+  not_kept (k ∷ ks) w h e = let x = and_parts (may_be_fixed (text k)) (all_kept ks) h in let n = other_text (text k) w x.0 e in rw n (not_kept ks w x.1 e)
 
 no_keyword : (w : List ℕ) → may_be_fixed w ≡ false → keyword_of w ≡ None
 unfolding keyword_of

@@ -1,6 +1,6 @@
 -- A format string is read piece by piece.
-use Rattle.std.proofs.Common.{◌≡◌, ◌<◌, ◌≤◌, ℕ, ◌+◌, ◌-◌, true, false, cond, not, ◌||◌, List, [], ◌∷◌, length, take, drop, get_or, refl, ap, sym, ◌∙◌, arith, zero, suc, inl, inr, eqb, subst, IsUtf8, add-zero, Option, Some, None}
-use Rattle.std.proofs.lemmas.Str.{IsCharBoundary-after_ascii, IsCharBoundary-before_ascii}
+use Rattle.std.proofs.Common.{◌≡◌, ◌<◌, ◌≤◌, ℕ, ◌+◌, ◌-◌, true, false, cond, not, ◌||◌, List, [], ◌∷◌, length, take, drop, get_or, refl, ap, sym, ◌∙◌, arith, zero, suc, inl, inr, eqb, subst, add-zero, Option, Some, None}
+use Rattle.std.proofs.lemmas.Str.{IsCharBoundary-before_ascii}
 use Rattle.std.proofs.lemmas.Bool.{cases_Bool, cases_lt, false≢true}
 use Rattle.std.proofs.lemmas.Bool.Decides.{nat_tests}
 use Rattle.std.proofs.lemmas.List.{get_or-drop, get_or-take, length-take-le, length-drop}
@@ -14,6 +14,7 @@ use Rattle.starlark_lexer.specs.declared.format.Turn.TheVariants.{Over, Text, Es
 use Rattle.starlark_lexer.specs.declared.format.FormatError.{FormatError}
 use Rattle.starlark_lexer.specs.Format.{Format, Part, text, capture, escape, with_part, plain, begins, name_len, conversion, IsOver, IsFirst, IsError}
 use Rattle.starlark_lexer.specs.FormatScan.{by_conversion, opens, turn, by_turn, parsed}
+use Rattle.starlark_lexer.proofs.Ascii.{is_low, at_next}
 
 -- ---- where a text may be cut
 
@@ -22,9 +23,6 @@ low_brace b h = grind (arith, nat_tests)
 
 low_bang : (b : ℕ) → not (eqb b 33) ≡ false → b < 128
 low_bang b h = grind (arith, nat_tests)
-
-is_low : (b c : ℕ) → c < 128 → eqb b c ≡ true → b < 128
-is_low b c l h = grind (arith, nat_tests)
 
 pub plain_boundary : (xs : List ℕ) → IsCharBoundary xs (plain xs)
 plain_boundary xs =
@@ -77,9 +75,6 @@ behind_name bs n lt low =
           subst (λ k. get_or bs k 0 < 128) e low
     ]
 
-at_next : (b : ℕ) (bs : List ℕ) (k m : ℕ) → k ≡ m + 1 → get_or bs m 0 < 128 → get_or (b ∷ bs) k 0 < 128
-at_next b bs k m e h = let s : suc m ≡ k = omega (arith, e) in subst (λ j. get_or (b ∷ bs) j 0 < 128) s h
-
 named_cuts : (b : ℕ) (bs : List ℕ) (n : ℕ) (o : Option FormatConv) → b < 128 → n < length bs → get_or bs n 0 < 128 → Cuts (by_conversion o (name_len (take n bs)) (length (take n bs) + 2)) (b ∷ bs)
 named_cuts b bs n None l lt low = omega arith
 named_cuts b bs n (Some c) l lt low =
@@ -129,11 +124,6 @@ cuts_of t xs e = subst (λ s. Cuts s xs) e (turn_cuts xs)
 
 pub boundary_text : (xs : List ℕ) (n : ℕ) → turn xs ≡ Text n → IsCharBoundary xs n
 boundary_text xs n e = subst (IsCharBoundary xs) (sym (cuts_of (Text n) xs e).whole) (plain_boundary xs)
-
-pub boundary_after : (xs : List ℕ) (n : ℕ) → IsUtf8 xs → 0 < n → n ≤ length xs → get_or xs (n - 1) 0 < 128 → IsCharBoundary xs n
-boundary_after xs n utf8 some most low =
-    let e : n - 1 + 1 ≡ n = omega (arith, some) in
-    subst (IsCharBoundary xs) e (IsCharBoundary-after_ascii xs (n - 1) utf8 (omega (arith, some, most)) low)
 
 pub boundary_name : (xs : List ℕ) (n len : ℕ) → IsCapture xs n len → IsCharBoundary xs (1 + n)
 boundary_name xs n len c = IsCharBoundary-before_ascii xs (1 + n) c.name c.behind

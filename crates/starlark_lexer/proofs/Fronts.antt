@@ -1,6 +1,6 @@
 -- The longest front of a text in each class of numbers.
 use Rattle.std.proofs.Common.{◌≡◌, ◌<◌, ◌≤◌, ℕ, ◌+◌, ◌-◌, Bool, true, false, cond, ◌&&◌, ◌||◌, List, [], ◌∷◌, length, take, drop, refl, ap, sym, ◌∙◌, arith, zero, suc, inl, inr, eqb, ltb, subst, one-add, length-drop}
-use Rattle.std.proofs.lemmas.Bool.{cases_Bool, cases_lt}
+use Rattle.std.proofs.lemmas.Bool.{cases_Bool, cases_lt, or_left, or_right, or_from}
 use Rattle.std.proofs.lemmas.Bool.Decides.{nat_tests}
 use Rattle.std.proofs.lemmas.List.{length-take-le, get_or-take}
 use Rattle.std.proofs.lemmas.List.Folds.{list_all_at}
@@ -146,15 +146,6 @@ is_power ys = is_digits ys || is_signed ys
 abbrev pub power_len : List ℕ → ℕ
 power_len ys = cond (eqb (digits_len ys) 0) (signed_len ys) (digits_len ys)
 
-left_true : (a b : Bool) → a ≡ true → (a || b) ≡ true
-left_true a b h = rw h refl
-
-both_false : (a b : Bool) → a ≡ false → b ≡ false → (a || b) ≡ false
-both_false a b h k = rw (h, k) refl
-
-right_true : (a b : Bool) → a ≡ false → b ≡ true → (a || b) ≡ true
-right_true a b h k = rw (h, k) refl
-
 -- where digits stand no sign does
 unsigned : (ys : List ℕ) → 0 < digits_len ys → None is_signed ys
 unsigned [] h = none_nil is_signed refl
@@ -174,10 +165,10 @@ power_right ys =
           rw e (record {
             some = λ pos. let h = s.some pos in record {
               within = h.within;
-              passes = right_true _ _ (no (signed_len ys) h.within) h.passes;
-              longest = λ k more le. both_false _ _ (no k le) (h.longest k more le);
+              passes = or_right _ _ h.passes;
+              longest = λ k more le. or_from _ _ (no k le) (h.longest k more le);
             };
-            none = λ n k le. both_false _ _ (no k le) (s.none n k le);
+            none = λ n k le. or_from _ _ (no k le) (s.none n k le);
           })
       | inr e ↦
           let pos : 0 < digits_len ys = grind (arith, nat_tests) in
@@ -185,8 +176,8 @@ power_right ys =
           let no = unsigned ys pos in
           rw e (best_front is_power ys (digits_len ys) pos (record {
             within = h.within;
-            passes = left_true _ _ h.passes;
-            longest = λ k more le. both_false _ _ (h.longest k more le) (no k le);
+            passes = or_left _ _ h.passes;
+            longest = λ k more le. or_from _ _ (h.longest k more le) (no k le);
           }))
     ]
 
@@ -213,11 +204,7 @@ exponent_right (b ∷ bs) =
 -- nothing is allowed too
 end_passes : (xs : List ℕ) (n : ℕ) → Right is_exponent xs n → ends_float (take n xs) ≡ true
 end_passes xs zero h = refl
-end_passes xs (suc n) h = right_true' (is_nil (take (suc n) xs)) _ (h.some (omega arith)).passes
-  where
-    right_true' : (a b : Bool) → b ≡ true → (a || b) ≡ true
-    right_true' true b k = refl
-    right_true' false b k = k
+end_passes xs (suc n) h = or_right (is_nil (take (suc n) xs)) _ (h.some (omega arith)).passes
 
 end_longer : (xs : List ℕ) (n : ℕ) → Right is_exponent xs n → (k : ℕ) → n < k → k ≤ length xs → ends_float (take k xs) ≡ false
 end_longer [] n h k more le = absurd (omega arith)
@@ -287,10 +274,10 @@ tail_right xs =
           rw e (record {
             some = λ pos. let h = s.some pos in record {
               within = h.within;
-              passes = right_true _ _ (no (exponent_len xs) h.within) h.passes;
-              longest = λ k more le. both_false _ _ (no k le) (h.longest k more le);
+              passes = or_right _ _ h.passes;
+              longest = λ k more le. or_from _ _ (no k le) (h.longest k more le);
             };
-            none = λ n k le. both_false _ _ (no k le) (s.none n k le);
+            none = λ n k le. or_from _ _ (no k le) (s.none n k le);
           })
       | inr e ↦
           let pos : 0 < fraction_len xs = grind (arith, nat_tests) in
@@ -298,8 +285,8 @@ tail_right xs =
           let no = pointed_none xs pos in
           rw e (best_front is_tail xs (fraction_len xs) pos (record {
             within = h.within;
-            passes = left_true _ _ h.passes;
-            longest = λ k more le. both_false _ _ (h.longest k more le) (no k le);
+            passes = or_left _ _ h.passes;
+            longest = λ k more le. or_from _ _ (h.longest k more le) (no k le);
           }))
     ]
 

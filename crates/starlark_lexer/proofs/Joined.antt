@@ -1,6 +1,6 @@
 -- The lexemes of two texts, one behind the other.
 use Rattle.std.proofs.Common.{◌≡◌, ◌<◌, ◌≤◌, ℕ, ◌+◌, ◌-◌, Bool, true, false, cond, ◌&&◌, ◌||◌, List, [], ◌∷◌, ◌++◌, length, take, drop, refl, ap, sym, ◌∙◌, arith, zero, suc, inl, inr, eqb, subst, length-drop, append_assoc}
-use Rattle.std.specs.Prelude.{Some, None, count_by}
+use Rattle.std.specs.Prelude.{None, count_by}
 use Rattle.std.proofs.lemmas.Bool.{cases_Bool, false≢true}
 use Rattle.std.proofs.lemmas.List.{take-append-le, drop-append-le, append-nil}
 use Rattle.std.proofs.lemmas.List.Sums.{sum_by-append, prefix_len_passes}
@@ -19,8 +19,11 @@ use Rattle.starlark_lexer.specs.Lex as rules
 use Rattle.starlark_lexer.specs.Joining.{IsClosed, IsEven, IsLevel, IsJoined, nested, outside, open_behind, is_comment, begins_line, dedent_item, ends_dedented, lexed_on}
 use Rattle.starlark_lexer.proofs.JoinedBodies.{Ended, Final, final_nil, body_more, body_short}
 use Rattle.starlark_lexer.proofs.JoinedTokens.{token_neutral}
-use Rattle.starlark_lexer.proofs.JoinedLines.{IsTail, tail_drop, tail_ended, tail_closed, lexeme_more, lexeme_short, end_more, len_more, len_short, end_most, escaped_more, escaped_short, closes_more, leading_more}
-use Rattle.starlark_lexer.proofs.JoinedOn.{Alike, on_past, count_cons, dedents_opened, dedents_closed, lex_on}
+use Rattle.starlark_lexer.proofs.JoinedLines.{IsTail, tail_drop, tail_ended, tail_closed, lexeme_more, lexeme_short, end_more, len_more, len_short, escaped_more, escaped_short, closes_more, leading_more}
+use Rattle.starlark_lexer.proofs.JoinedOn.{Alike, on_past, count_cons, lex_on}
+use Rattle.starlark_lexer.proofs.Options.{none_some}
+use Rattle.starlark_lexer.proofs.Dedents.{dedents_opened, dedents_closed}
+use Rattle.starlark_lexer.proofs.Gaps.{line_end_within}
 
 -- ---- f-strings that are open
 
@@ -272,9 +275,6 @@ no_widths lines (y ∷ ys) c e x o = absurd (omega (arith, e))
 
 -- ---- rule by rule
 
-some_none : {A : Type 0} (x : A) → Some x ≡ None → ⊥
-some_none x e = cc
-
 feed_blank : (x : ℕ) → x ≡ 10 → is_blank x ≡ true → ⊥
 feed_blank x e h = false≢true (sym (ap is_blank e) ∙ h)
 
@@ -298,7 +298,7 @@ some_behind : (b : ℕ) (bs : List ℕ) → Ended (b ∷ bs) → (b ≡ 10 → �
 some_behind b [] h n = absurd (n h)
 some_behind b (c ∷ bs) h n = h
 
-ended_some : (xs : List ℕ) → Ended xs → 0 < length xs
+pub ended_some : (xs : List ℕ) → Ended xs → 0 < length xs
 ended_some [] h = absurd h
 ended_some (b ∷ bs) h = omega arith
 
@@ -384,7 +384,7 @@ goes b (rules.remark_line p rest more f e) h =
     let r = remark_more more b ended in
     let n = line_len more in
     let z = line_end (drop n more) in
-    let most : z ≤ length more - n = omega (arith, end_most (drop n more), length-drop n more) in
+    let most : z ≤ length more - n = omega (arith, line_end_within (drop n more), length-drop n more) in
     gives_goes p rest b h (leading rest) (comment (take n more)) (1 + n) (leading rest + (1 + n) + z) true (omega (arith, len, most, len_short more ended))
     (record { strings = λ n. refl; line = λ _. rw f refl }) (λ _ _. refl)
     (subst (λ k. Step p (rest ++ b) (gives p k (comment (take n more)) (1 + n) (k + (1 + n) + z) true (rest ++ b))) lead
@@ -397,7 +397,7 @@ goes b (rules.last_line p rest closed f e c) h = λ ok even.
     let n = p.place + length rest in
     let k = closing p n (length closed) h.nest even in
     record { none = none; fresh = f; mode = k.mode; outer = k.outer; balanced = k.balanced; closed = closed; closes = c; items = ap (λ xs. item n newline n ∷ xs) (append-nil (dedents n (length closed))) }
-goes b (rules.tabbed p rest m t) h = λ ok even. absurd (some_none _ ok)
+goes b (rules.tabbed p rest m t) h = λ ok even. absurd (none_some _ (sym ok))
 goes b (rules.deepens p rest m t d) h =
     let lead = leading_more rest b m.more m.first m.stands in
     let same = blanks_more p rest b m in
@@ -414,7 +414,7 @@ goes b (rules.fits p rest closed m t o c) h =
     (subst (λ k. Step p (rest ++ b) (fitted p (width rest) (length closed) k (rest ++ b))) lead
     (subst (λ w. Step p (rest ++ b) (fitted p w (length closed) (leading (rest ++ b)) (rest ++ b))) wide
     (rules.fits p (rest ++ b) closed (measured_more p rest b m) (ap has_tab same ∙ t) (subst (IsOpen p.lines) (sym wide) o) (subst (λ w. Closes p.lines w closed) (sym wide) c))))
-goes b (rules.misfits p rest m t d o) h = λ ok even. absurd (some_none _ ok)
+goes b (rules.misfits p rest m t d o) h = λ ok even. absurd (none_some _ (sym ok))
 goes b (rules.passes p x rest f c d) h =
     let ended : Ended rest = some_behind x rest (tail_ended (x ∷ rest) h.tail (omega arith)) (λ e. feed_blank x e d) in
     passes_goes p (x ∷ rest) b h 1 (omega arith) (λ e _ _. omega (arith, e, ended_some rest ended)) (rules.passes p x (rest ++ b) f c d)
@@ -449,7 +449,7 @@ goes b (rules.lexeme p rest n x v l) h =
     let neutral = token_neutral (take n rest) x l.means in
     gives_goes p rest b h 0 x n n false (omega (arith, short)) (not_line p.fresh x neutral.nested) (λ e _. absurd (omega (arith, e, short)))
     (rules.lexeme p (rest ++ b) n x (plain_more p rest b v ended) (lexeme_more rest b n (token x) l ended))
-goes b (rules.faults p rest n e v l) h = λ ok even. absurd (some_none _ ok)
+goes b (rules.faults p rest n e v l) h = λ ok even. absurd (none_some _ (sym ok))
 goes b (rules.ends_text p closed f c d) h = λ ok even.
     let k = closing p p.place (length closed) h.nest even in
     absurd (false≢true (sym f ∙ h.line refl k.mode k.balanced))
@@ -466,8 +466,8 @@ goes b (rules.literal p rest n g k v l s e) h =
     (not_line p.fresh _ (literal_neutral g.sort (value g (take k (drop n rest))))) (λ t _. absurd (omega (arith, t, short, length-drop n rest, lt)))
     (subst (λ w. Step p (rest ++ b) (gives p 0 (literal_lexeme g.sort (value g w)) (n + k + quotes g.quote) (n + k + quotes g.quote) false (rest ++ b))) same
     (rules.literal p (rest ++ b) n g k (plain_more p rest b v ended) (lexeme_more rest b n (opens g) l ended) s whole))
-goes b (rules.unclosed p rest n g k v l s e) h = λ ok even. absurd (some_none _ ok)
-goes b (rules.misspelt p rest n g k m v l s e) h = λ ok even. absurd (some_none _ ok)
+goes b (rules.unclosed p rest n g k v l s e) h = λ ok even. absurd (none_some _ (sym ok))
+goes b (rules.misspelt p rest n g k m v l s e) h = λ ok even. absurd (none_some _ (sym ok))
 goes b (rules.enters p rest n g v l s) h =
     let ended = tail_ended rest h.tail (lexeme_some rest n _ l) in
     let lt = lexeme_short rest n (opens g) l ended in
@@ -500,8 +500,8 @@ goes b (rules.opens_field p i g rest f c e) h =
   where
     field_code : (i : ℕ) (g : Form) → rules.field i g [] ≡ rules.code → ⊥
     field_code i g e = cc
-goes b (rules.unfinished p i g rest k f c e) h = λ ok even. absurd (some_none _ ok)
-goes b (rules.misspells p i g rest k m f c e) h = λ ok even. absurd (some_none _ ok)
+goes b (rules.unfinished p i g rest k f c e) h = λ ok even. absurd (none_some _ (sym ok))
+goes b (rules.misspells p i g rest k m f c e) h = λ ok even. absurd (none_some _ (sym ok))
 goes b (rules.shuts p i g bs rest f c d) h =
     turns_goes p (125 ∷ rest) b h fstring_expr_end 1 (rules.inside i g) p.outer (omega arith) refl refl refl (nest_inside i g bs p.outer (subst (λ m. Nest m p.outer) c h.nest)) (λ t m. inside_code i g m)
     (rules.shuts p i g bs (rest ++ b) f c d)

@@ -4,7 +4,7 @@ use Rattle.std.specs.Prelude.{Option, Some, None}
 use Rattle.std.specs.Char.{is_digit}
 use Rattle.std.specs.List.{prefix_len}
 use Rattle.std.specs.Str.Parse.{digits_value}
-use Rattle.std.proofs.lemmas.Bool.{cases_Bool, false≢true}
+use Rattle.std.proofs.lemmas.Bool.{cases_Bool, false≢true, and_parts}
 use Rattle.std.proofs.lemmas.Bool.Decides.{nat_tests}
 use Rattle.std.proofs.lemmas.List.{take-append-le, length-take}
 use Rattle.std.proofs.lemmas.List.Sums.{prefix_len-le-length}
@@ -151,7 +151,7 @@ Final (ending.Field n) = Unit {0}
 Final (ending.Unfinished n) = ⊥
 Final (ending.Escape n m) = ⊥
 
-final_later : (k : ℕ) (e : Ending) → Final (later k e) → Final e
+pub final_later : (k : ℕ) (e : Ending) → Final (later k e) → Final e
 final_later k (ending.Closed n) h = tt
 final_later k (ending.Field n) h = tt
 final_later k (ending.Unfinished n) h = h
@@ -213,18 +213,8 @@ ShortPiece f xs _ = Unit {0}
 closes_short : (q : FStringQuote) (b c : ℕ) (bs : List ℕ) → Ended (c ∷ bs) → (eqb b (mark q) && goes_on q (c ∷ bs)) ≡ true → quotes q < length (b ∷ c ∷ bs)
 closes_short Single b c bs h t = omega arith
 closes_short Double b c bs h t = omega arith
-closes_short TripleSingle b c [] h t = absurd (never (eqb b 39) (eqb c 39) t)
-  where
-    never : (a d : Bool) → (a && (d && false)) ≡ true → ⊥
-    never true true t = false≢true t
-    never true false t = false≢true t
-    never false d t = false≢true t
-closes_short TripleDouble b c [] h t = absurd (never (eqb b 34) (eqb c 34) t)
-  where
-    never : (a d : Bool) → (a && (d && false)) ≡ true → ⊥
-    never true true t = false≢true t
-    never true false t = false≢true t
-    never false d t = false≢true t
+closes_short TripleSingle b c [] h t = absurd (false≢true (and_parts (eqb c 39) false (and_parts (eqb b 39) (eqb c 39 && false) t).1).1)
+closes_short TripleDouble b c [] h t = absurd (false≢true (and_parts (eqb c 34) false (and_parts (eqb b 34) (eqb c 34 && false) t).1).1)
 closes_short TripleSingle b c (d ∷ []) h t = absurd (never b c d h t)
   where
     never : (b c d : ℕ) → d ≡ 10 → (eqb b 39 && (eqb c 39 && eqb d 39)) ≡ true → ⊥

@@ -1,18 +1,21 @@
 -- The lexemes of two texts, one behind the other, where Dedents close the first.
-use Rattle.std.proofs.Common.{◌≡◌, ℕ, ◌+◌, true, false, List, [], ◌∷◌, ◌++◌, length, drop, map, refl, ap, sym, ◌∙◌, arith, inl, inr, eqb, subst, append_assoc}
-use Rattle.std.specs.Prelude.{Some, None, ◌⊎◌, count_by}
+use Rattle.std.proofs.Common.{◌≡◌, ℕ, ◌+◌, true, false, List, [], ◌∷◌, ◌++◌, length, drop, map, refl, ap, sym, ◌∙◌, arith, inl, inr, subst, append_assoc}
+use Rattle.std.specs.Prelude.{None, ◌⊎◌, count_by}
 use Rattle.std.proofs.lemmas.Bool.{cases_Bool, false≢true}
-use Rattle.std.proofs.lemmas.Bool.Decides.{nat_tests}
 use Rattle.std.proofs.lemmas.List.{append-nil}
 use Rattle.std.specs.List.{list_all}
 use Rattle.starlark_lexer.specs.Items.{newline, Item, item, Lexed, nothing, with_items, opening_item, closing_item, dedents}
 use Rattle.starlark_lexer.specs.Classes.{leading, blanks, has_tab, width}
-use Rattle.starlark_lexer.specs.Widths.{IsOpen, Closes, has}
+use Rattle.starlark_lexer.specs.Widths.{IsOpen, Closes}
 use Rattle.starlark_lexer.specs.Lex.{Past, Move, Step, Lex, on, over, start, goes_on, is_over}
 use Rattle.starlark_lexer.specs.Lex as rules
 use Rattle.starlark_lexer.specs.Joining.{IsClosed, IsEven, IsLaid, line_item, opens_level, item_on, lexed_on}
-use Rattle.starlark_lexer.proofs.JoinedOn.{Alike, on_past, moves, both_on, measured_on, fitted_on, ends_on, open_after, lex_on, dedents_opened, dedents_closed}
+use Rattle.starlark_lexer.proofs.JoinedOn.{Alike, on_past, moves, both_on, measured_on, fitted_on, ends_on, lex_on}
 use Rattle.starlark_lexer.proofs.Joined.{cut_text}
+use Rattle.starlark_lexer.proofs.Options.{none_some}
+use Rattle.starlark_lexer.proofs.Dedents.{dedents_opened, dedents_closed}
+use Rattle.starlark_lexer.proofs.Widths.{open_after}
+use Rattle.starlark_lexer.proofs.Stacks.{has_first}
 
 -- ---- lines without a width
 
@@ -43,9 +46,6 @@ closes_nil w [] c = refl
 closes_nil w (y ∷ ys) c =
     let k = (c.each y).0 (has_first y ys) in
     absurd (omega (arith, open_nil y k.0, k.1))
-  where
-    has_first : (y : ℕ) (ys : List ℕ) → has (y ∷ ys) y ≡ true
-    has_first y ys = let e : eqb y y ≡ true = grind (arith, nat_tests) in rw e refl
 
 -- a line end or a comment on a line of its own
 record Lines (n : ℕ) (is : List Item) (ls closed : List ℕ) (q : Past) (rest : List ℕ) (xs : List Item) (r : Past) (more : List ℕ) : Type 0 where
@@ -74,9 +74,6 @@ record Over (n : ℕ) (is : List Item) (ls : List ℕ) (c : ℕ) (q : Past) (res
 abbrev First : ℕ → List Item → List ℕ → List ℕ → Past → List ℕ → Move → Type 0
 First n is ls closed q rest (on xs r more) = Lines n is ls closed q rest xs r more ⊎ (Measured n is ls (length closed) q rest xs r more ⊎ ((ys : List Item) → opens_level (xs ++ ys) ≡ false))
 First n is ls closed q rest (over l) = l.fault ≡ None → Over n is ls (length closed) q rest l
-
-some_none : {A : Type 0} (x : A) → Some x ≡ None → ⊥
-some_none x e = cc
 
 module _ (n : ℕ) (is : List Item) (ls closed : List ℕ) (shuts : Closes ls 0 closed) where
   like : (q : Past) → count_by opening_item is + count_by closing_item q.items ≡ count_by closing_item is + count_by opening_item q.items → Alike is ls (relined ls q)
@@ -125,10 +122,10 @@ module _ (n : ℕ) (is : List Item) (ls closed : List ℕ) (shuts : Closes ls 0 
         items = ap (λ v. item i newline i ∷ (dedents i (length v) ++ [])) empty;
         step = ends_on n (relined ls q) is ls rest (like q even) i (n + q.place + length rest) (length closed) (omega arith) (rules.last_line (on_past n is ls q) rest closed f e shuts);
       }
-  first (rules.tabbed q rest m t) fr none even = λ ok. absurd (some_none _ ok)
+  first (rules.tabbed q rest m t) fr none even = λ ok. absurd (none_some _ (sym ok))
   first (rules.deepens q rest m t d) fr none even = inr (inr (λ ys. refl))
   first (rules.fits q rest cl m t o c) fr none even = inr (inl (fitted_first q rest cl even none m t o c))
-  first (rules.misfits q rest m t d o) fr none even = λ ok. absurd (some_none _ ok)
+  first (rules.misfits q rest m t d o) fr none even = λ ok. absurd (none_some _ (sym ok))
   first (rules.passes q b rest f c d) fr none even = absurd (false≢true (sym f ∙ fr))
   first (rules.escapes q rest f c d) fr none even = absurd (false≢true (sym f ∙ fr))
   first (rules.joins q rest f d) fr none even = absurd (false≢true (sym f ∙ fr))

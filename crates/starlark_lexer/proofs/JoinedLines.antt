@@ -1,13 +1,13 @@
 -- What a text that ends in a line feed begins with is the same in a longer text.
 use Rattle.std.proofs.Common.{◌≡◌, ◌<◌, ◌≤◌, ℕ, ◌+◌, ◌-◌, Bool, true, false, cond, ◌&&◌, List, [], ◌∷◌, ◌++◌, length, take, drop, get_or, refl, ap, sym, ◌∙◌, arith, zero, suc, inl, inr, eqb, ltb, subst, one-add, length-append, append_assoc, ◌⊎◌}
-use Rattle.std.specs.Prelude.{Option, Some, None}
 use Rattle.std.proofs.lemmas.Bool.{cases_Bool, cases_lt, false≢true}
 use Rattle.std.proofs.lemmas.Bool.Decides.{nat_tests}
 use Rattle.std.proofs.lemmas.List.{get_or-take, get_or_append_left, length-take-le, take-append-le, take-append-drop, drop-drop, append_cancel_right}
 use Rattle.starlark_lexer.specs.Classes.{Meaning, meaning, IsLexeme, is_blank, leading, begins_line, line_end, line_len, escaped, closes_field}
 use Rattle.starlark_lexer.specs.Joining.{IsClosed}
-use Rattle.starlark_lexer.proofs.JoinedClasses.{line_none}
 use Rattle.starlark_lexer.proofs.JoinedBodies.{Ended}
+use Rattle.starlark_lexer.proofs.Options.{none_some}
+use Rattle.starlark_lexer.proofs.Clean.{line_none}
 
 -- ---- the end of a text
 
@@ -66,7 +66,7 @@ tail_closed text c =
 
 -- ---- lexemes
 
-last_of : (xs : List ℕ) → Ended xs → get_or xs (length xs - 1) 0 ≡ 10
+pub last_of : (xs : List ℕ) → Ended xs → get_or xs (length xs - 1) 0 ≡ 10
 last_of [] h = absurd h
 last_of (b ∷ []) h = h
 last_of (b ∷ c ∷ bs) h = let e : length (b ∷ c ∷ bs) - 1 ≡ suc (length (c ∷ bs) - 1) = omega arith in ap (λ k. get_or (b ∷ c ∷ bs) k 0) e ∙ last_of (c ∷ bs) h
@@ -88,9 +88,6 @@ lexeme_more xs ys n m h ended =
       ];
     }
 
-none_some : (o : Option Meaning) (m : Meaning) → o ≡ None → o ≡ Some m → ⊥
-none_some o m h1 h2 = cc
-
 -- it ends before the line feed
 pub lexeme_short : (xs : List ℕ) (n : ℕ) (m : Meaning) → IsLexeme xs n m → Ended xs → n < length xs
 lexeme_short xs n m h ended = elim (cases_lt n (length xs)) [
@@ -98,7 +95,7 @@ lexeme_short xs n m h ended = elim (cases_lt n (length xs)) [
   | inr ge ↦
       let at = length xs - 1 in
       let len = length-take-le n xs h.within in
-      absurd (none_some _ m (line_none (take n xs) at (omega (arith, h.nonempty, h.within)) (get_or-take n xs at 0 (omega (arith, h.nonempty, h.within)) ∙ last_of xs ended)) h.means)
+      absurd (none_some m (sym (line_none (take n xs) at (omega (arith, h.nonempty, h.within)) (get_or-take n xs at 0 (omega (arith, h.nonempty, h.within)) ∙ last_of xs ended)) ∙ h.means))
 ]
 
 -- ---- line ends
@@ -124,13 +121,6 @@ unfolding line_len
 len_short [] h = absurd h
 len_short (b ∷ []) h = let e = end_one b [] h in rw e (omega arith)
 len_short (b ∷ c ∷ bs) h = elim (cases_Bool (eqb (line_end (b ∷ c ∷ bs)) 0)) [ inl t ↦ rw t (omega (arith, len_short (c ∷ bs) h)) | inr f ↦ rw f (omega arith) ]
-
-pub end_most : (xs : List ℕ) → line_end xs ≤ length xs
-unfolding line_end
-end_most [] = omega arith
-end_most (b ∷ []) = elim (cases_Bool (eqb b 10)) [ inl t ↦ rw t (omega arith) | inr f ↦ rw f (elim (cases_Bool (eqb b 13)) [ inl g ↦ rw g (omega arith) | inr g ↦ rw g (omega arith) ]) ]
-end_most (b ∷ c ∷ bs) =
-    elim (cases_Bool (eqb b 10)) [ inl t ↦ rw t (omega arith) | inr f ↦ rw f (elim (cases_Bool (eqb b 13 && eqb c 10)) [ inl g ↦ rw g (omega arith) | inr g ↦ rw g (omega arith) ]) ]
 
 -- ---- escaped line ends
 

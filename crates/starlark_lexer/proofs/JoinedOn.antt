@@ -1,6 +1,6 @@
 -- A text is cut into the same n bytes on, behind other items and lines.
-use Rattle.std.proofs.Common.{◌≡◌, ◌<◌, ◌≤◌, ℕ, ◌+◌, Bool, false, cond, List, [], ◌∷◌, ◌++◌, length, drop, map, get_or, refl, ap, sym, ◌∙◌, arith, zero, suc, inl, inr, subst}
-use Rattle.std.specs.Prelude.{Some, None, ◌⊎◌, count_by}
+use Rattle.std.proofs.Common.{◌≡◌, ℕ, ◌+◌, Bool, false, cond, List, [], ◌∷◌, ◌++◌, length, drop, map, refl, ap, sym, ◌∙◌, arith, zero, suc, inl, inr, subst}
+use Rattle.std.specs.Prelude.{None, count_by}
 use Rattle.std.proofs.lemmas.List.{map-append}
 use Rattle.std.proofs.lemmas.List.Sums.{sum_by-cons}
 use Rattle.starlark_lexer.specs.declared.literal.Form.{Form}
@@ -12,24 +12,11 @@ use Rattle.starlark_lexer.specs.Widths.{IsOpen, Closes}
 use Rattle.starlark_lexer.specs.Lex.{Mode, Past, Move, Step, Lex, on, over, IsBalanced, IsJoined, IsPlain, IsMeasured, recorded, mode_behind, below, is_inside, moved, gives, deepened, fitted, ends, turns, goes_on, is_over}
 use Rattle.starlark_lexer.specs.Lex as rules
 use Rattle.starlark_lexer.specs.Joining.{item_on, stop_on, lexed_on}
+use Rattle.starlark_lexer.proofs.Options.{none_some}
+use Rattle.starlark_lexer.proofs.Dedents.{dedents_opened, dedents_closed}
+use Rattle.starlark_lexer.proofs.Widths.{open_after, open_now, open_still}
 
 -- ---- the widths that are open
-
-pub open_after : (w : ℕ) (lines : List ℕ) (x : ℕ) → IsOpen (w ∷ lines) x → (x ≡ w) ⊎ ((x ≤ w) × IsOpen lines x)
-open_after w lines x (inl h) = inr (omega arith, inl h)
-open_after w lines x (inr (zero, lt, is, before)) = inl (sym is)
-open_after w lines x (inr (suc k, lt, is, before)) = inr (before 0 (omega arith), inr (k, omega arith, is, λ j l. before (suc j) (omega arith)))
-
-open_now : (w : ℕ) (lines : List ℕ) → IsOpen (w ∷ lines) w
-open_now w lines = inr (0, omega arith, refl, λ j l. absurd (omega arith))
-
-still_under : (w : ℕ) (lines : List ℕ) (x k : ℕ) → x ≤ w → ((j : ℕ) → j < k → x ≤ get_or lines j 0) → (j : ℕ) → j < suc k → x ≤ get_or (w ∷ lines) j 0
-still_under w lines x k h before zero l = h
-still_under w lines x k h before (suc j) l = before j (omega arith)
-
-open_still : (w : ℕ) (lines : List ℕ) (x : ℕ) → x ≤ w → IsOpen lines x → IsOpen (w ∷ lines) x
-open_still w lines x h (inl z) = inl z
-open_still w lines x h (inr (k, lt, is, before)) = inr (suc k, omega arith, is, still_under w lines x k h before)
 
 -- one line more behind both
 open_more : (ls ms : List ℕ) (w : ℕ) → ((x : ℕ) → IsOpen ls x → IsOpen ms x) → (x : ℕ) → IsOpen (w ∷ ls) x → IsOpen (w ∷ ms) x
@@ -57,14 +44,6 @@ on_past n is ls q = record { place = n + q.place; items = is; lines = ls; fresh 
 
 pub count_cons : (f : Item → Bool) (x : Item) (xs : List Item) → count_by f (x ∷ xs) ≡ cond (f x) 1 0 + count_by f xs
 count_cons f x xs = sum_by-cons (λ y. cond (f y) 1 0) x xs
-
-pub dedents_opened : (i n : ℕ) (xs : List Item) → count_by opening_item (dedents i n ++ xs) ≡ count_by opening_item xs
-dedents_opened i zero xs = refl
-dedents_opened i (suc n) xs = dedents_opened i n xs
-
-pub dedents_closed : (i n : ℕ) (xs : List Item) → count_by closing_item (dedents i n ++ xs) ≡ count_by closing_item xs
-dedents_closed i zero xs = refl
-dedents_closed i (suc n) xs = dedents_closed i n xs
 
 -- two lists of items that are as even
 abbrev EvenLists : List Item → List Item → Type 0
@@ -200,31 +179,28 @@ module _ (n : ℕ) (q : Past) (is : List Item) (ls : List ℕ) (rest : List ℕ)
   balanced_on : IsBalanced q → IsBalanced (on_past n is ls q)
   balanced_on e = omega (arith, e, h.even)
 
-some_none : {A : Type 0} (x : A) → Some x ≡ None → ⊥
-some_none x e = cc
-
 pub moves : (n : ℕ) {q : Past} {rest : List ℕ} {m : Move} (is : List Item) (ls : List ℕ) → Step q rest m → Alike is ls q → Moves n q is ls rest m
 moves n is ls (rules.blank_line q rest more f e) h = gives_on n q is ls rest h _ _ _ _ _ (rules.blank_line (on_past n is ls q) rest more f e)
 moves n is ls (rules.remark_line q rest more f e) h = gives_on n q is ls rest h _ _ _ _ _ (rules.remark_line (on_past n is ls q) rest more f e)
 moves n is ls (rules.last_line q rest closed f e c) h = λ ok.
     ends_on n q is ls rest h (q.place + length rest) (n + q.place + length rest) (length closed) (omega arith) (rules.last_line (on_past n is ls q) rest closed f e (closes_on n q is ls rest h 0 closed c))
-moves n is ls (rules.tabbed q rest m t) h = λ ok. absurd (some_none _ ok)
+moves n is ls (rules.tabbed q rest m t) h = λ ok. absurd (none_some _ (sym ok))
 moves n is ls (rules.deepens q rest m t d) h = deepened_on n q is ls rest h _ _ (rules.deepens (on_past n is ls q) rest (measured_on n q is ls rest h m) t (λ x o. d x (h.there x o)))
 moves n is ls (rules.fits q rest closed m t o c) h =
     fitted_on n q is ls rest h _ _ _ (rules.fits (on_past n is ls q) rest closed (measured_on n q is ls rest h m) t (h.back (width rest) o) (closes_on n q is ls rest h (width rest) closed c))
-moves n is ls (rules.misfits q rest m t d o) h = λ ok. absurd (some_none _ ok)
+moves n is ls (rules.misfits q rest m t d o) h = λ ok. absurd (none_some _ (sym ok))
 moves n is ls (rules.passes q b rest f c d) h = passes_on n q is ls (b ∷ rest) h 1 rest (rules.passes (on_past n is ls q) b rest f (inside_on n q.mode ∙ c) d)
 moves n is ls (rules.escapes q rest f c d) h = passes_on n q is ls rest h (escaped rest) (drop (escaped rest) rest) (rules.escapes (on_past n is ls q) rest f (inside_on n q.mode ∙ c) d)
 moves n is ls (rules.joins q rest f d) h = passes_on n q is ls (10 ∷ rest) h 1 rest (rules.joins (on_past n is ls q) rest f (joined_on n q is ls rest h d))
 moves n is ls (rules.ends_line q rest f c d) h = gives_on n q is ls (10 ∷ rest) h _ _ _ _ _ (rules.ends_line (on_past n is ls q) rest f (ap (mode_on n) c) (balanced_on n q is ls rest h d))
 moves n is ls (rules.remark q rest f c) h = gives_on n q is ls (35 ∷ rest) h _ _ _ _ _ (rules.remark (on_past n is ls q) rest f (inside_on n q.mode ∙ c))
 moves n is ls (rules.lexeme q rest k x p l) h = gives_on n q is ls rest h _ _ _ _ _ (rules.lexeme (on_past n is ls q) rest k x (plain_on n q is ls rest h p) l)
-moves n is ls (rules.faults q rest k e p l) h = λ ok. absurd (some_none _ ok)
+moves n is ls (rules.faults q rest k e p l) h = λ ok. absurd (none_some _ (sym ok))
 moves n is ls (rules.ends_text q closed f c d) h = λ ok.
     ends_on n q is ls [] h q.place (n + q.place) (length closed) refl (rules.ends_text (on_past n is ls q) closed f (inside_on n q.mode ∙ c) (closes_on n q is ls [] h 0 closed d))
 moves n is ls (rules.literal q rest k g j p l s e) h = gives_on n q is ls rest h _ _ _ _ _ (rules.literal (on_past n is ls q) rest k g j (plain_on n q is ls rest h p) l s e)
-moves n is ls (rules.unclosed q rest k g j p l s e) h = λ ok. absurd (some_none _ ok)
-moves n is ls (rules.misspelt q rest k g j m p l s e) h = λ ok. absurd (some_none _ ok)
+moves n is ls (rules.unclosed q rest k g j p l s e) h = λ ok. absurd (none_some _ (sym ok))
+moves n is ls (rules.misspelt q rest k g j m p l s e) h = λ ok. absurd (none_some _ (sym ok))
 moves n is ls (rules.enters q rest k g p l s) h =
     turns_on n q is ls rest h (fstring_start g.quote) k (rules.inside q.place g) _ (q.mode ∷ q.outer) _ refl refl (rules.enters (on_past n is ls q) rest k g (plain_on n q is ls rest h p) l s)
 moves n is ls (rules.texts q b g rest k f c s e) h = gives_on n q is ls rest h _ _ _ _ _ (rules.texts (on_past n is ls q) (n + b) g rest k f (ap (mode_on n) c) s e)
@@ -232,8 +208,8 @@ moves n is ls (rules.leaves q b g rest f c e) h =
     turns_on n q is ls rest h fstring_end (quotes g.quote) (below q.outer) _ (drop 1 q.outer) _ (below_on n q.outer) (drop_on n q.outer) (rules.leaves (on_past n is ls q) (n + b) g rest f (ap (mode_on n) c) e)
 moves n is ls (rules.opens_field q b g rest f c e) h =
     turns_on n q is ls rest h fstring_expr_start 1 (rules.field b g []) _ q.outer _ refl refl (rules.opens_field (on_past n is ls q) (n + b) g rest f (ap (mode_on n) c) e)
-moves n is ls (rules.unfinished q b g rest k f c e) h = λ ok. absurd (some_none _ ok)
-moves n is ls (rules.misspells q b g rest k m f c e) h = λ ok. absurd (some_none _ ok)
+moves n is ls (rules.unfinished q b g rest k f c e) h = λ ok. absurd (none_some _ (sym ok))
+moves n is ls (rules.misspells q b g rest k m f c e) h = λ ok. absurd (none_some _ (sym ok))
 moves n is ls (rules.shuts q b g bs rest f c d) h =
     turns_on n q is ls (125 ∷ rest) h fstring_expr_end 1 (rules.inside b g) _ q.outer _ refl refl (rules.shuts (on_past n is ls q) (n + b) g bs rest f (ap (mode_on n) c) d)
 moves n is ls (rules.bangs q b g bs rest f c d e) h = gives_on n q is ls (33 ∷ rest) h _ _ _ _ _ (rules.bangs (on_past n is ls q) (n + b) g bs rest f (ap (mode_on n) c) d e)

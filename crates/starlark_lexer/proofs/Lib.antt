@@ -1,4 +1,7 @@
+pub mod Options
 pub mod Runs
+pub mod Ascii
+pub mod Dedents
 pub mod Lanes
 pub mod Gaps
 pub mod Modes
@@ -16,6 +19,8 @@ pub mod Singles
 pub mod Fixed
 pub mod Fronts
 pub mod Longest
+pub mod Passing
+pub mod Clean
 pub mod Scanned
 pub mod Depth
 pub mod Widths
@@ -30,7 +35,6 @@ pub mod Sounds
 pub mod Hands
 pub mod Ordered
 pub mod Identifiers
-pub mod JoinedClasses
 pub mod JoinedBodies
 pub mod JoinedTokens
 pub mod JoinedLines

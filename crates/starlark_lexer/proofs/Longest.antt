@@ -1,7 +1,7 @@
 -- What `scan` finds is the longest front of the text in any class.
 use Rattle.std.proofs.Common.{◌≡◌, ◌<◌, ◌≤◌, ℕ, ◌+◌, ◌-◌, Bool, true, false, cond, not, ◌&&◌, ◌||◌, List, [], ◌∷◌, length, take, drop, refl, ap, sym, ◌∙◌, arith, zero, suc, inl, inr, eqb, ltb, subst, one-add, length-drop}
 use Rattle.std.specs.Prelude.{Option, Some, None}
-use Rattle.std.proofs.lemmas.Bool.{cases_Bool, false≢true}
+use Rattle.std.proofs.lemmas.Bool.{cases_Bool, false≢true, and_right}
 use Rattle.std.proofs.lemmas.Bool.Decides.{nat_tests}
 use Rattle.std.proofs.lemmas.List.Sums.{prefix_len-le-length}
 use Rattle.std.specs.List.{prefix_len, list_all}
@@ -433,12 +433,8 @@ pointed_found y ys d =
 pub begins_goes : (b : ℕ) → begins_word b ≡ true → is_word_byte b ≡ true
 begins_goes b h = grind (arith, nat_tests)
 
-and_false : (t : Bool) → (t && false) ≡ false
-and_false true = refl
-and_false false = refl
-
 pub pointed_by : (b : ℕ) (bs : List ℕ) → (eqb b 46 && begins_digit bs) ≡ true → Found_in b bs (found.Kind kind.Float, tail_len (b ∷ bs))
-pointed_by b [] h = absurd (false≢true (sym (and_false (eqb b 46)) ∙ h))
+pointed_by b [] h = absurd (false≢true (sym (and_right (eqb b 46) false refl) ∙ h))
 pointed_by b (y ∷ ys) h =
     let b46 : b ≡ 46 = grind (arith, nat_tests) in
     let d : is_ascii_digit y ≡ true = grind (arith, nat_tests) in

@@ -1,9 +1,7 @@
 -- Integers written in a base.
-use Rattle.std.proofs.Common.{◌≡◌, ◌<◌, ◌≤◌, ℕ, ℤ, pos, negsuc, ◌+◌, ◌-◌, ◌^◌, Bool, true, false, ltb, eqb, List, length, get_or, refl, ap, sym, ◌∙◌, arith, inl, inr, subst, IsUtf8, w32}
-use Rattle.std.proofs.lemmas.Bool.{cases_Bool}
+use Rattle.std.proofs.Common.{◌≡◌, ◌<◌, ℕ, ℤ, pos, negsuc, ◌^◌, Bool, true, false, eqb, List, refl, ap, sym, ◌∙◌, arith, IsUtf8, w32}
+use Rattle.std.proofs.lemmas.Bool.{ltb-true}
 use Rattle.std.proofs.lemmas.Bool.Decides.{nat_tests}
-use Rattle.std.proofs.lemmas.Str.{IsCharBoundary-after_ascii, IsCharBoundary-start}
-use Rattle.std.proofs.lemmas.List.Sums.{prefix_len-le-length, prefix_len_passes}
 use Rattle.std.specs.Int.RustNames.{FitsSigned}
 use Rattle.std.specs.List.{prefix_len}
 use Rattle.std.specs.Str.{IsCharBoundary}
@@ -11,15 +9,13 @@ use Rattle.starlark_lexer.specs.Number.{is_small, shortest, number, value}
 use Rattle.starlark_lexer.specs.Items.{small, big, is_big}
 use mir.Val.{to_z, of_z}
 use Rattle.std.proofs.lemmas.Int.{to_z-of_z}
-
-below : (a b : ℕ) → ltb a b ≡ true → a < b
-below a b h = grind (arith, nat_tests)
+use Rattle.starlark_lexer.proofs.Ascii.{run_boundary}
 
 -- ---- what fits
 
 small_fits : (z : ℤ) → is_small z ≡ true → FitsSigned w32 z
-small_fits (pos n) h = record { sfits = below n (2 ^ 31) h }
-small_fits (negsuc n) h = record { sfits = below n (2 ^ 31) h }
+small_fits (pos n) h = record { sfits = ltb-true n (2 ^ 31) h }
+small_fits (negsuc n) h = record { sfits = ltb-true n (2 ^ 31) h }
 
 pub small_number : (negative : Bool) (base : ℕ) (ds : List ℕ) (z : ℤ) → z ≡ value negative base ds → is_small z ≡ true → small (to_z w32 (of_z w32 z)) ≡ number negative base ds
 unfolding number
@@ -37,25 +33,9 @@ big_takes negative base ds h = ap is_big (sym (big_number negative base ds (shor
 
 -- ---- where a text may be cut
 
-zero_from : (n : ℕ) → eqb n 0 ≡ true → n ≡ 0
-zero_from n h = grind (arith, nat_tests)
-
-above : (n : ℕ) → eqb n 0 ≡ false → 0 < n
-above n h = grind (arith, nat_tests)
-
 zero_low : (b : ℕ) → eqb b 48 ≡ true → b < 128
 zero_low b h = grind (arith, nat_tests)
 
 -- behind zeros
 pub zeros_boundary : (xs : List ℕ) → IsUtf8 xs → IsCharBoundary xs (prefix_len (λ d. eqb d 48) xs)
-zeros_boundary xs utf8 =
-    let n = prefix_len (λ d. eqb d 48) xs in
-    elim (cases_Bool (eqb n 0)) [
-      | inl e ↦ subst (IsCharBoundary xs) (sym (zero_from n e)) (IsCharBoundary-start xs utf8)
-      | inr e ↦
-          let some : 0 < n = above n e in
-          let most : n ≤ length xs = prefix_len-le-length (λ d. eqb d 48) xs in
-          let back : n - 1 + 1 ≡ n = omega (arith, some) in
-          let low : get_or xs (n - 1) 0 < 128 = zero_low _ (prefix_len_passes (λ d. eqb d 48) xs (n - 1) 0 (omega (arith, some))) in
-          subst (IsCharBoundary xs) back (IsCharBoundary-after_ascii xs (n - 1) utf8 (omega (arith, some, most)) low)
-    ]
+zeros_boundary xs utf8 = run_boundary (λ d. eqb d 48) xs zero_low utf8

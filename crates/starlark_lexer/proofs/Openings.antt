@@ -1,6 +1,6 @@
 -- The prefix and quotes at the front of a text.
 use Rattle.std.proofs.Common.{◌≡◌, ◌<◌, ◌≤◌, ℕ, ◌+◌, ◌-◌, Bool, true, false, cond, not, ◌&&◌, ◌||◌, List, [], ◌∷◌, length, take, drop, get_or, refl, ap, sym, ◌∙◌, arith, zero, suc, ◌⊎◌, inl, inr, eqb, subst, one-add, Option, Some, None}
-use Rattle.std.proofs.lemmas.Bool.{cases_Bool, false≢true}
+use Rattle.std.proofs.lemmas.Bool.{cases_Bool, false≢true, and_parts}
 use Rattle.std.proofs.lemmas.Bool.Decides.{nat_tests}
 use Rattle.std.proofs.lemmas.List.{get_or-drop, length-take-le, length-drop, take_rest, take-take, drop-take, drop_all}
 use Rattle.std.proofs.lemmas.List.Sums.{prefix_len-le-length}
@@ -10,6 +10,7 @@ use Rattle.starlark_lexer.specs.declared.token.FStringQuote.{FStringQuote}
 use Rattle.starlark_lexer.specs.declared.token.FStringQuote.TheVariants.{Single, Double, TripleSingle, TripleDouble}
 use Rattle.starlark_lexer.specs.Fronts.{quote_front, front_of, opening_front, may_open}
 use Rattle.starlark_lexer.specs.Literals.{is_mark, quotes, prefix_of, quote_of, letters, opened, opening_of, begins}
+use Rattle.starlark_lexer.proofs.Options.{none_some}
 
 -- ---- quotes
 
@@ -26,10 +27,6 @@ either : (ys : List ℕ) (t : Bool) (p q : Option FStringQuote) → (t ≡ true 
 either ys true p q h k = h refl
 either ys false p q h k = k refl
 
-both : (a b : Bool) → (a && b) ≡ true → (a ≡ true) × (b ≡ true)
-both true b h = (refl, h)
-both false b h = absurd (false≢true h)
-
 -- a mark and two more, of one kind
 pub record IsTriple (m a : ℕ) (w : List ℕ) : Type 0 where
   pub second : ℕ
@@ -40,9 +37,9 @@ pub record IsTriple (m a : ℕ) (w : List ℕ) : Type 0 where
 
 triple_from : (m a : ℕ) (w : List ℕ) → eqb a m ≡ true → (begins m w && begins m (drop 1 w)) ≡ true → IsTriple m a w
 triple_from m a [] e h = absurd (false≢true h)
-triple_from m a (b ∷ []) e h = absurd (false≢true (both (eqb b m) false h).1)
+triple_from m a (b ∷ []) e h = absurd (false≢true (and_parts (eqb b m) false h).1)
 triple_from m a (b ∷ c ∷ v) e h =
-    let p = both (eqb b m) (eqb c m) h in
+    let p = and_parts (eqb b m) (eqb c m) h in
     record { second = b; third = c; rest = v; is = refl; marks = rw (e, p.0, p.1) refl }
 
 four_none : (a b c : ℕ) (v : List ℕ) (j : ℕ) → 3 < j → j ≤ length (a ∷ b ∷ c ∷ v) → quote_of (take j (a ∷ b ∷ c ∷ v)) ≡ None
@@ -233,16 +230,13 @@ opening_none xs e k le =
       | inr h ↦ h.1
     ]
 
-quotes_some : (q : FStringQuote) → 0 < quotes q
+pub quotes_some : (q : FStringQuote) → 0 < quotes q
 quotes_some Single = omega arith
 quotes_some Double = omega arith
 quotes_some TripleSingle = omega arith
 quotes_some TripleDouble = omega arith
 
 -- a prefix and quotes that stand
-none_some : {T : Type 0} (x : T) → None ≡ Some x → ⊥
-none_some x h = cc
-
 abbrev form_in : Option (Form × ℕ) → Form → Option Form
 form_in None f = Some f
 form_in (Some r) f = Some r.0

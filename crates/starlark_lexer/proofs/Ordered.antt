@@ -8,8 +8,6 @@ use Rattle.std.specs.List.{filter}
 use Rattle.starlark_lexer.specs.declared.literal.Form.{Form}
 use Rattle.starlark_lexer.specs.declared.literal.Ending.{Ending}
 use Rattle.starlark_lexer.specs.declared.literal.Ending.TheVariants as ending
-use Rattle.starlark_lexer.specs.declared.token.FStringQuote.{FStringQuote}
-use Rattle.starlark_lexer.specs.declared.token.FStringQuote.TheVariants.{Single, Double, TripleSingle, TripleDouble}
 use Rattle.starlark_lexer.specs.Items.{Lexeme, newline, indent, is_newline, Item, item, Stop, Lexed, dedents, newline_span}
 use Rattle.starlark_lexer.specs.Literals.{body, quotes}
 use Rattle.starlark_lexer.specs.Classes.{is_blank, leading, width, spaces, line_end, line_len, escaped}
@@ -22,6 +20,9 @@ use Rattle.starlark_lexer.proofs.Bodies.{IsInside, body_within}
 use Rattle.starlark_lexer.proofs.Widths.{IsStack, no_lines}
 use Rattle.starlark_lexer.proofs.Widths as widths
 use Rattle.starlark_lexer.proofs.Stacks.{kept_filter, closes_count, same_closes}
+use Rattle.starlark_lexer.proofs.Dedents.{dedents_span}
+use Rattle.starlark_lexer.proofs.Openings.{quotes_some}
+use Rattle.starlark_lexer.proofs.Gaps.{line_end_within, line_len_within}
 
 -- ---- what stands before
 
@@ -85,10 +86,6 @@ span_recorded : (m : Mode) (x : Item) (xs : List Item) (i : ℕ) → x.begin ≤
 span_recorded rules.code x xs i le fits h = span_cons x xs i le fits h
 span_recorded (rules.inside b g) x xs i le fits h = h
 span_recorded (rules.field b g bs) x xs i le fits h = h
-
-dedents_span : (i n : ℕ) (xs : List Item) → newline_span (dedents i n ++ xs) ≡ newline_span xs
-dedents_span i zero xs = refl
-dedents_span i (suc n) xs = dedents_span i n xs
 
 span_dedents : (i n : ℕ) (xs : List Item) (j : ℕ) → SoundSpan xs j → SoundSpan (dedents i n ++ xs) j
 span_dedents i n xs j h =
@@ -239,34 +236,16 @@ module _ (p : Past) (ws rest : List ℕ) (h : Sound p) (stack : IsStack p.lines 
 
 -- ---- rule by rule
 
-quotes_some : (q : FStringQuote) → 0 < quotes q
-quotes_some Single = omega arith
-quotes_some Double = omega arith
-quotes_some TripleSingle = omega arith
-quotes_some TripleDouble = omega arith
-
 pub inside : (g : Form) (rest : List ℕ) (e : Ending) → body g 0 rest ≡ e → IsInside g rest e
 inside g rest e is = rw is at (body_within g rest)
 
 pub short : (rest more : List ℕ) (c : ℕ) → drop (leading rest) rest ≡ c ∷ more → leading rest + (1 + length more) ≡ length rest
 short rest more c e = omega (arith, ap length e, length-drop (leading rest) rest)
 
-pub end_most : (xs : List ℕ) → line_end xs ≤ length xs
-unfolding line_end
-end_most [] = omega arith
-end_most (b ∷ []) = elim (cases_Bool (eqb b 10)) [ inl t ↦ rw t (omega arith) | inr f ↦ rw f (elim (cases_Bool (eqb b 13)) [ inl g ↦ rw g (omega arith) | inr g ↦ rw g (omega arith) ]) ]
-end_most (b ∷ c ∷ bs) =
-    elim (cases_Bool (eqb b 10)) [ inl t ↦ rw t (omega arith) | inr f ↦ rw f (elim (cases_Bool (eqb b 13 && eqb c 10)) [ inl g ↦ rw g (omega arith) | inr g ↦ rw g (omega arith) ]) ]
-
-pub len_most : (xs : List ℕ) → line_len xs ≤ length xs
-unfolding line_len
-len_most [] = omega arith
-len_most (b ∷ bs) = elim (cases_Bool (eqb (line_end (b ∷ bs)) 0)) [ inl t ↦ rw t (omega (arith, len_most bs)) | inr f ↦ rw f (omega arith) ]
-
 pub escaped_most : (xs : List ℕ) → escaped xs ≤ length xs
 unfolding escaped
 escaped_most [] = omega arith
-escaped_most (b ∷ bs) = elim (cases_Bool (eqb b 92 && ltb 0 (line_end bs))) [ inl t ↦ rw t (omega (arith, end_most bs)) | inr f ↦ rw f (omega arith) ]
+escaped_most (b ∷ bs) = elim (cases_Bool (eqb b 92 && ltb 0 (line_end bs))) [ inl t ↦ rw t (omega (arith, line_end_within bs)) | inr f ↦ rw f (omega arith) ]
 
 -- a line that is wider than another begins with a blank
 wide_blank : (rest : List ℕ) (n : ℕ) → 0 < spaces (take n rest) → 0 < n
@@ -279,7 +258,7 @@ within ws (rules.blank_line p rest more f e) h s = gives_within p ws rest h s (l
 within ws (rules.remark_line p rest more f e) h s =
     let n = line_len more in
     gives_within p ws rest h s (leading rest) _ (1 + n) (leading rest + (1 + n) + line_end (drop n more)) true (omega arith) (omega arith)
-    (omega (arith, short rest more 35 e, len_most more, end_most (drop n more), length-drop n more))
+    (omega (arith, short rest more 35 e, line_len_within more, line_end_within (drop n more), length-drop n more))
 within ws (rules.last_line p rest closed f e c) h s = ends_within p ws rest h s (p.place + length rest) closed (omega arith) (omega arith) c
 within ws (rules.tabbed p rest m t) h s = ((omega arith, h.ordered, omega (arith, h.before)), omega arith)
 within ws (rules.deepens p rest m t d) h s =
@@ -290,7 +269,7 @@ within ws (rules.passes p b rest f c d) h s = passes_within p ws (b ∷ rest) h 
 within ws (rules.escapes p rest f c d) h s = passes_within p ws rest h s (escaped rest) (escaped_most rest)
 within ws (rules.joins p rest f d) h s = passes_within p ws (10 ∷ rest) h s 1 (omega arith)
 within ws (rules.ends_line p rest f c d) h s = gives_within p ws (10 ∷ rest) h s 0 newline 1 1 true (omega arith) (omega arith) (omega arith)
-within ws (rules.remark p rest f c) h s = gives_within p ws (35 ∷ rest) h s 0 _ (1 + line_len rest) (1 + line_len rest) false (omega arith) (omega arith) (omega (arith, len_most rest))
+within ws (rules.remark p rest f c) h s = gives_within p ws (35 ∷ rest) h s 0 _ (1 + line_len rest) (1 + line_len rest) false (omega arith) (omega arith) (omega (arith, line_len_within rest))
 within ws (rules.lexeme p rest n x v l) h s = gives_within p ws rest h s 0 x n n false l.nonempty (omega arith) l.within
 within ws (rules.faults p rest n e v l) h s = ((omega arith, omega arith, omega (arith, l.within)), omega arith)
 within ws (rules.ends_text p closed f c d) h s = ends_within p ws [] h s p.place closed (omega arith) (omega arith) d

@@ -1,7 +1,6 @@
 -- The pieces of a body: how many bytes they have, and where a text may be cut behind them.
 use Rattle.std.proofs.Common.{◌≡◌, ◌<◌, ◌≤◌, ℕ, ◌+◌, ◌-◌, Bool, true, false, cond, ◌&&◌, ◌||◌, List, [], ◌∷◌, length, take, drop, get_or, refl, arith, suc, inl, inr, eqb, ltb, subst, IsUtf8, Option, Some, None}
-use Rattle.std.proofs.lemmas.Str.{IsCharBoundary-after_ascii}
-use Rattle.std.proofs.lemmas.Bool.{cases_Bool, cases_lt, false≢true}
+use Rattle.std.proofs.lemmas.Bool.{cases_Bool, cases_lt, false≢true, and_parts, eqb-true, ltb-true}
 use Rattle.std.proofs.lemmas.Bool.Decides.{nat_tests}
 use Rattle.std.proofs.lemmas.List.{get_or-take, length-take}
 use Rattle.std.proofs.lemmas.List.Sums.{prefix_len_stops, prefix_len_passes, prefix_len-le-length}
@@ -16,6 +15,7 @@ use Rattle.starlark_lexer.specs.declared.literal.Sort.TheVariants as sorts
 use Rattle.starlark_lexer.specs.declared.token.FStringQuote.{FStringQuote}
 use Rattle.starlark_lexer.specs.declared.token.FStringQuote.TheVariants.{Single, Double, TripleSingle, TripleDouble}
 use Rattle.starlark_lexer.specs.Literals.{quotes, mark, is_triple, is_format, is_bytes, continues, character, is_scalar, no_escape, escaped, simple, hex_digits, digits, digits_of, begins, hex_escape, octal_escape, other_escape, by_simple, escape, raw_escape, goes_on, brace, piece}
+use Rattle.starlark_lexer.proofs.Ascii.{is_low, at_next, boundary_after}
 
 -- n bytes, and behind them a text that begins with an ASCII byte may be cut
 pub record IsCut (xs : List ℕ) (n : ℕ) : Type 0 where
@@ -49,14 +49,9 @@ Cuts f (Same n) xs = IsCut xs n
 
 -- ---- where a text may be cut
 
-boundary_after : (xs : List ℕ) (n : ℕ) → 0 < n → n ≤ length xs → get_or xs (n - 1) 0 < 128 → IsUtf8 xs → IsCharBoundary xs n
-boundary_after xs n some most low utf8 =
-    let e : n - 1 + 1 ≡ n = omega (arith, some) in
-    subst (IsCharBoundary xs) e (IsCharBoundary-after_ascii xs (n - 1) utf8 (omega (arith, some, most)) low)
-
 -- behind an ASCII byte
 low_cut : (xs : List ℕ) (n : ℕ) → 0 < n → n ≤ length xs → get_or xs (n - 1) 0 < 128 → IsCut xs n
-low_cut xs n some most low = record { moves = some; within = most; ends = λ _ utf8. boundary_after xs n some most low utf8 }
+low_cut xs n some most low = record { moves = some; within = most; ends = λ _ utf8. boundary_after xs n utf8 some most low }
 
 one : (b : ℕ) (bs : List ℕ) → b < 128 → IsCut (b ∷ bs) 1
 one b bs h = low_cut (b ∷ bs) 1 (omega arith) (omega arith) h
@@ -99,14 +94,11 @@ digit_high c h =
     let e6 : ltb c 123 ≡ false = grind (arith, nat_tests) in
     rw (e1, e2, e3, e4, e5, e6) refl
 
-less_from : (a b : ℕ) → ltb a b ≡ true → a < b
-less_from a b h = grind (arith, nat_tests)
-
 digit_low : (c base : ℕ) → base ≤ 36 → is_digit c base ≡ true → c < 128
 digit_low c base most h =
     elim (cases_lt c 123) [
       | inl l ↦ omega (arith, l)
-      | inr m ↦ absurd (omega (arith, most, less_from (digit_value c) base h, digit_high c m))
+      | inr m ↦ absurd (omega (arith, most, ltb-true (digit_value c) base h, digit_high c m))
     ]
 
 -- the last of the digits at the front
@@ -120,9 +112,6 @@ last_digit base most bs low some =
 
 digits_within : (base most : ℕ) (bs : List ℕ) → digits base most bs ≤ length bs
 digits_within base most bs = omega (arith, prefix_len-le-length (λ d. is_digit d base) (take most bs), length-take most bs)
-
-at_next : (b : ℕ) (bs : List ℕ) (k m : ℕ) → k ≡ m + 1 → get_or bs m 0 < 128 → get_or (b ∷ bs) k 0 < 128
-at_next b bs k m e h = let s : suc m ≡ k = omega (arith, e) in subst (λ j. get_or (b ∷ bs) j 0 < 128) s h
 
 -- ---- escapes
 
@@ -156,19 +145,9 @@ hex_cuts f n b c cs l some =
           rw e (escaped_cuts f (digits_of 16 n cs) (2 + n) b c cs l (low_cut (b ∷ c ∷ cs) (2 + n) (omega arith) (omega (arith, within)) low))
     ]
 
-both : (a b : Bool) → (a && b) ≡ true → (a ≡ true) × (b ≡ true)
-both true b h = (refl, h)
-both false b h = absurd (false≢true h)
-
-is_low : (b c : ℕ) → c < 128 → eqb b c ≡ true → b < 128
-is_low b c l h = grind (arith, nat_tests)
-
 crlf : (b c : ℕ) (cs : List ℕ) → (eqb c 13 && begins 10 cs) ≡ true → IsCut (b ∷ c ∷ cs) 3
-crlf b c [] h = absurd (false≢true (both (eqb c 13) false h).1)
-crlf b c (d ∷ cs) h = three b c d cs (is_low d 10 (omega arith) (both (eqb c 13) (eqb d 10) h).1)
-
-some_from : (n : ℕ) → ltb 0 n ≡ true → 0 < n
-some_from n h = grind (arith, nat_tests)
+crlf b c [] h = absurd (false≢true (and_parts (eqb c 13) false h).1)
+crlf b c (d ∷ cs) h = three b c d cs (is_low d 10 (omega arith) (and_parts (eqb c 13) (eqb d 10) h).1)
 
 either : (f : Form) (xs : List ℕ) (t : Bool) (p q : Piece) → (t ≡ true → Cuts f p xs) → (t ≡ false → Cuts f q xs) → Cuts f (cond t p q) xs
 either f xs true p q h k = h refl
@@ -177,7 +156,7 @@ either f xs false p q h k = k refl
 other_cuts : (f : Form) (b c : ℕ) (cs : List ℕ) → b < 128 → Cuts f (other_escape f.sort c (c ∷ cs)) (b ∷ c ∷ cs)
 other_cuts f b c cs l =
     either f (b ∷ c ∷ cs) (is_digit c 8) _ _ (octal_cuts f b c cs l) (λ _.
-    either f (b ∷ c ∷ cs) (ltb 0 (hex_digits c)) _ _ (λ e. hex_cuts f (hex_digits c) b c cs l (some_from (hex_digits c) e)) (λ _.
+    either f (b ∷ c ∷ cs) (ltb 0 (hex_digits c)) _ _ (λ e. hex_cuts f (hex_digits c) b c cs l (ltb-true 0 (hex_digits c) e)) (λ _.
     either f (b ∷ c ∷ cs) (eqb c 10) _ _ (λ e. two b c cs (is_low c 10 (omega arith) e)) (λ _.
     either f (b ∷ c ∷ cs) (eqb c 13 && begins 10 cs) _ _ (crlf b c cs) (λ _. wrong_cut f b c cs l))))
 
@@ -232,19 +211,16 @@ raw_cuts f b (c ∷ cs) l =
 
 triple_cut : (m b : ℕ) (bs : List ℕ) → m < 128 → (begins m bs && begins m (drop 1 bs)) ≡ true → IsCut (b ∷ bs) 3
 triple_cut m b [] l h = absurd (false≢true h)
-triple_cut m b (c ∷ []) l h = absurd (false≢true (both (eqb c m) false h).1)
-triple_cut m b (c ∷ d ∷ bs) l h = three b c d bs (is_low d m l (both (eqb c m) (eqb d m) h).1)
+triple_cut m b (c ∷ []) l h = absurd (false≢true (and_parts (eqb c m) false h).1)
+triple_cut m b (c ∷ d ∷ bs) l h = three b c d bs (is_low d m l (and_parts (eqb c m) (eqb d m) h).1)
 
 closing_cut : (q : FStringQuote) (b : ℕ) (bs : List ℕ) → (eqb b (mark q) && goes_on q bs) ≡ true → IsEnd (b ∷ bs) (quotes q)
-closing_cut Single b bs h = let l = is_low b 39 (omega arith) (both (eqb b 39) true h).0 in record { cut = one b bs l; low = l }
-closing_cut Double b bs h = let l = is_low b 34 (omega arith) (both (eqb b 34) true h).0 in record { cut = one b bs l; low = l }
-closing_cut TripleSingle b bs h = let p = both (eqb b 39) (begins 39 bs && begins 39 (drop 1 bs)) h in record { cut = triple_cut 39 b bs (omega arith) p.1; low = is_low b 39 (omega arith) p.0 }
-closing_cut TripleDouble b bs h = let p = both (eqb b 34) (begins 34 bs && begins 34 (drop 1 bs)) h in record { cut = triple_cut 34 b bs (omega arith) p.1; low = is_low b 34 (omega arith) p.0 }
+closing_cut Single b bs h = let l = is_low b 39 (omega arith) (and_parts (eqb b 39) true h).0 in record { cut = one b bs l; low = l }
+closing_cut Double b bs h = let l = is_low b 34 (omega arith) (and_parts (eqb b 34) true h).0 in record { cut = one b bs l; low = l }
+closing_cut TripleSingle b bs h = let p = and_parts (eqb b 39) (begins 39 bs && begins 39 (drop 1 bs)) h in record { cut = triple_cut 39 b bs (omega arith) p.1; low = is_low b 39 (omega arith) p.0 }
+closing_cut TripleDouble b bs h = let p = and_parts (eqb b 34) (begins 34 bs && begins 34 (drop 1 bs)) h in record { cut = triple_cut 34 b bs (omega arith) p.1; low = is_low b 34 (omega arith) p.0 }
 
-is_at : (b c : ℕ) → eqb b c ≡ true → b ≡ c
-is_at b c h = grind (arith, nat_tests)
-
-format_no_bytes : (s : Sort) → is_format s ≡ true → is_bytes s ≡ false
+pub format_no_bytes : (s : Sort) → is_format s ≡ true → is_bytes s ≡ false
 format_no_bytes sorts.Text h = refl
 format_no_bytes sorts.Bytes h = absurd (false≢true h)
 format_no_bytes sorts.Format h = refl
@@ -258,7 +234,7 @@ brace_cuts f b bs s l =
     elim (cases_Bool (begins b bs)) [
       | inl e ↦ rw e (record { cut = doubled_cut b bs l e; suits = format_no_bytes f.sort s })
       | inr e1 ↦ rw e1 (
-          elim (cases_Bool (eqb b 123)) [ inl e ↦ rw e (record { format = s; some = omega arith; brace = is_at b 123 e }) | inr e ↦ rw e (one b bs l) ])
+          elim (cases_Bool (eqb b 123)) [ inl e ↦ rw e (record { format = s; some = omega arith; brace = eqb-true b 123 e }) | inr e ↦ rw e (one b bs l) ])
     ]
 
 low_brace : (b : ℕ) → (eqb b 123 || eqb b 125) ≡ true → b < 128
@@ -266,7 +242,7 @@ low_brace b h = grind (arith, nat_tests)
 
 -- a byte by itself
 pub any_cut : (b : ℕ) (bs : List ℕ) → IsCut (b ∷ bs) 1
-any_cut b bs = record { moves = omega arith; within = omega arith; ends = λ low utf8. boundary_after (b ∷ bs) 1 (omega arith) (omega arith) low utf8 }
+any_cut b bs = record { moves = omega arith; within = omega arith; ends = λ low utf8. boundary_after (b ∷ bs) 1 utf8 (omega arith) (omega arith) low }
 
 pub piece_cuts : (f : Form) (xs : List ℕ) → Cuts f (piece f xs) xs
 unfolding piece
@@ -276,7 +252,7 @@ piece_cuts f (b ∷ bs) =
     either f (b ∷ bs) (eqb b 13) _ _ (λ _. any_cut b bs) (λ _.
     either f (b ∷ bs) (eqb b 10) _ _ (λ e. either f (b ∷ bs) (is_triple f.quote) _ _ (λ _. any_cut b bs) (λ _ _. is_low b 10 (omega arith) e)) (λ _.
     either f (b ∷ bs) (eqb b 92) _ _ (λ e. either f (b ∷ bs) f.raw _ _ (λ _. raw_cuts f b bs (is_low b 92 (omega arith) e)) (λ _. escape_cuts f b bs (is_low b 92 (omega arith) e))) (λ _.
-    either f (b ∷ bs) (is_format f.sort && (eqb b 123 || eqb b 125)) _ _ (λ e. brace_cuts f b bs (both (is_format f.sort) (eqb b 123 || eqb b 125) e).0 (low_brace b (both (is_format f.sort) (eqb b 123 || eqb b 125) e).1)) (λ _. any_cut b bs)))))
+    either f (b ∷ bs) (is_format f.sort && (eqb b 123 || eqb b 125)) _ _ (λ e. brace_cuts f b bs (and_parts (is_format f.sort) (eqb b 123 || eqb b 125) e).0 (low_brace b (and_parts (is_format f.sort) (eqb b 123 || eqb b 125) e).1)) (λ _. any_cut b bs)))))
 
 pub cut_of : (f : Form) (p : Piece) (xs : List ℕ) → piece f xs ≡ p → Cuts f p xs
 cut_of f p xs e = subst (λ q. Cuts f q xs) e (piece_cuts f xs)

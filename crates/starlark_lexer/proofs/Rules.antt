@@ -1,7 +1,7 @@
 -- Each rule says what the machine does, and some rule holds at each place.
-use Rattle.std.proofs.Common.{◌≡◌, ◌<◌, ◌≤◌, ℕ, ◌+◌, ◌-◌, Bool, true, false, cond, not, ◌&&◌, ◌||◌, List, [], ◌∷◌, ◌++◌, length, take, drop, get_or, refl, ap, sym, ◌∙◌, arith, zero, suc, inl, inr, eqb, ltb, leb, subst, one-add, add-zero, length-drop, eq-eqb}
-use Rattle.std.specs.Prelude.{count_by, ◌⊎◌, Option, Some, None}
-use Rattle.std.proofs.lemmas.Bool.{cases_Bool, false≢true, cases_lt}
+use Rattle.std.proofs.Common.{◌≡◌, ◌<◌, ◌≤◌, ℕ, ◌+◌, ◌-◌, Bool, true, false, cond, not, ◌&&◌, List, [], ◌∷◌, ◌++◌, length, take, drop, get_or, refl, ap, sym, ◌∙◌, arith, zero, suc, inl, inr, eqb, ltb, leb, subst, one-add, add-zero, length-drop, eq-eqb}
+use Rattle.std.specs.Prelude.{count_by, ◌⊎◌, Option, Some}
+use Rattle.std.proofs.lemmas.Bool.{cases_Bool, false≢true, cases_lt, eqb-true, or_parts, ne_eqb}
 use Rattle.std.proofs.lemmas.Bool.Decides.{nat_tests}
 use Rattle.std.proofs.lemmas.List.{drop_all}
 use Rattle.std.proofs.lemmas.List.Sums.{prefix_len-le-length, sum_by-cons}
@@ -45,6 +45,8 @@ use Rattle.starlark_lexer.proofs.Machine.{step_fresh, step_within, step_text}
 use Rattle.starlark_lexer.proofs.Widths as widths
 use Rattle.starlark_lexer.proofs.Widths.{IsStack}
 use Rattle.starlark_lexer.proofs.Stacks.{kept_filter, closes_count, none_above, same_closes}
+use Rattle.starlark_lexer.proofs.Options.{none_some}
+use Rattle.starlark_lexer.proofs.Dedents.{dedents_opened, dedents_closed, dedents_span}
 
 abbrev pub mode_of : rules.Mode → Mode
 mode_of rules.code = mode.Code
@@ -326,15 +328,9 @@ line_none : (ws bl : List ℕ) (g : ℕ) → line_from ws bl g [] ≡ turns.End 
 unfolding line_from
 line_none ws bl g = refl
 
-equal_from : (a b : ℕ) → eqb a b ≡ true → a ≡ b
-equal_from a b h = grind (arith, nat_tests)
-
-differs : (a b : ℕ) → (a ≡ b → ⊥) → eqb a b ≡ false
-differs a b h = elim (cases_Bool (eqb a b)) [ inr e ↦ e | inl e ↦ absurd (h (grind (arith, nat_tests))) ]
-
 line_more : (ws bl more : List ℕ) (g b : ℕ) → (b ≡ 10 → ⊥) → (b ≡ 35 → ⊥) → line_from ws bl g (b ∷ more) ≡ cond (has_tab bl) (turns.Tab g) (fits ws (spaces bl) g)
 unfolding line_from
-line_more ws bl more g b h1 h2 = let e1 = differs b 10 h1 in let e2 = differs b 35 h2 in rw (e1, e2) refl
+line_more ws bl more g b h1 h2 = let e1 = ne_eqb b 10 h1 in let e2 = ne_eqb b 35 h2 in rw (e1, e2) refl
 
 fits_open : (ws : List ℕ) (w g : ℕ) → is_open ws w ≡ true → fits ws w g ≡ turns.Fits (kept ws w) g
 unfolding fits
@@ -352,18 +348,6 @@ remark_text : (m : ℕ) (more rest : List ℕ) (s : ℕ) → drop s rest ≡ 35 
 remark_text m more rest s e = ap (λ xs. comment (drop 1 (take (1 + m) xs))) e ∙ ap (λ k. comment (drop 1 (take k (35 ∷ more)))) (one-add m)
 
 -- ---- the widths
-
-dedents_opened : (i n : ℕ) (xs : List Item) → count_by opening_item (dedents i n ++ xs) ≡ count_by opening_item xs
-dedents_opened i zero xs = refl
-dedents_opened i (suc n) xs = dedents_opened i n xs
-
-dedents_closed : (i n : ℕ) (xs : List Item) → count_by closing_item (dedents i n ++ xs) ≡ count_by closing_item xs
-dedents_closed i zero xs = refl
-dedents_closed i (suc n) xs = dedents_closed i n xs
-
-dedents_span : (i n : ℕ) (xs : List Item) → newline_span (dedents i n ++ xs) ≡ newline_span xs
-dedents_span i zero xs = refl
-dedents_span i (suc n) xs = dedents_span i n xs
 
 module _ (p : Past) (ws rest : List ℕ) (stack : IsStack p.lines ws) where
   deepened_same : (w g : ℕ) → is_open ws w ≡ false → kept ws w ≡ length ws → Same (deepened p w g rest) (act (turns.Deeper w g) (at p ws rest))
@@ -445,15 +429,12 @@ here_scan m b bs h k z = rw (h, k, z) refl
 
 -- ---- one lexeme at a place
 
-not_both : (o : Option Meaning) (m : Meaning) → o ≡ None → o ≡ Some m → ⊥
-not_both o m h1 h2 = cc
-
 pub one_length : (rest : List ℕ) (n k : ℕ) (m v : Meaning) → IsLexeme rest n m → IsLexeme rest k v → n ≡ k
 one_length rest n k m v a b =
     elim (cases_lt n k) [
-      | inl l ↦ absurd (not_both _ v (a.longest k l b.within) b.means)
+      | inl l ↦ absurd (none_some v (sym (a.longest k l b.within) ∙ b.means))
       | inr g ↦
-          elim (cases_lt k n) [ inl l ↦ absurd (not_both _ m (b.longest n l a.within) a.means) | inr g2 ↦ omega arith ]
+          elim (cases_lt k n) [ inl l ↦ absurd (none_some m (sym (b.longest n l a.within) ∙ a.means)) | inr g2 ↦ omega arith ]
     ]
 
 same_some : (m v : Meaning) (o : Option Meaning) → o ≡ Some m → o ≡ Some v → m ≡ v
@@ -464,15 +445,7 @@ one_meaning rest n k m v a b = same_some m v _ a.means (ap (λ i. meaning (take 
 
 pub stands : (b : ℕ) (bs : List ℕ) (n : ℕ) (m : Meaning) → IsLexeme (b ∷ bs) n m → is_passed b ≡ false
 stands b bs zero m h = absurd (omega (arith, h.nonempty))
-stands b bs (suc n) m h = elim (cases_Bool (is_passed b)) [ inr e ↦ e | inl e ↦ absurd (not_both _ m (passed_none b e (take n bs)) h.means) ]
-
-pub left_part : (a b : Bool) → (a || b) ≡ false → a ≡ false
-left_part false b h = refl
-left_part true b h = h
-
-pub right_part : (a b : Bool) → (a || b) ≡ false → b ≡ false
-right_part false b h = h
-right_part true b h = absurd (cc)
+stands b bs (suc n) m h = elim (cases_Bool (is_passed b)) [ inr e ↦ e | inl e ↦ absurd (none_some m (sym (passed_none b e (take n bs)) ∙ h.means)) ]
 
 token_same : (x y : Lexeme) → token x ≡ token y → x ≡ y
 token_same x y h = cc
@@ -505,7 +478,7 @@ turn_opens b bs n y (found.Opens g, m) scanned lex =
 ground_none : (m : rules.Mode) (c : Bool) → ((b : ℕ) (g : Form) (bs : List Bracket) → m ≡ rules.field b g bs → IsDepth bs 0 → c ≡ false) → (at_ground (mode_of m) && c) ≡ false
 ground_none rules.code c h = refl
 ground_none (rules.inside b g) c h = refl
-ground_none (rules.field b g bs) c h = elim (cases_Bool (eqb (depth_in bs) 0)) [ inr e ↦ rw e refl | inl e ↦ rw e (h b g bs refl (subst (IsDepth bs) (equal_from _ _ e) (depth_is bs))) ]
+ground_none (rules.field b g bs) c h = elim (cases_Bool (eqb (depth_in bs) 0)) [ inr e ↦ rw e refl | inl e ↦ rw e (h b g bs refl (subst (IsDepth bs) (eqb-true _ _ e) (depth_is bs))) ]
 
 -- where a lexeme stands, what is scanned is what comes
 module _ (p : Past) (ws : List ℕ) (mv : Move) where
@@ -514,10 +487,9 @@ module _ (p : Past) (ws : List ℕ) (mv : Move) where
   by_scan [] n m z h go = absurd (omega (arith, h.nonempty, h.within))
   by_scan (b ∷ bs) n m z h go =
       let s = stands b bs n m h in
-      let l = left_part (eqb b 10) (eqb b 35) (right_part (is_blank b) _ s) in
-      let r = right_part (eqb b 10) (eqb b 35) (right_part (is_blank b) _ s) in
-      let k = left_part (is_blank b) _ s in
-      by_here p ws (b ∷ bs) mv z.within z.outside (pass_none _ b bs z.no_escape k l) _ (here_scan _ b bs l r (ground_none p.mode _ z.no_end)) (go b bs refl (scan_lexeme b bs k l r))
+      let k = or_parts (is_blank b) _ s in
+      let l = or_parts (eqb b 10) (eqb b 35) k.1 in
+      by_here p ws (b ∷ bs) mv z.within z.outside (pass_none _ b bs z.no_escape k.0 l.0) _ (here_scan _ b bs l.0 l.1 (ground_none p.mode _ z.no_end)) (go b bs refl (scan_lexeme b bs k.0 l.0 l.1))
 
 module _ (p : Past) (ws rest : List ℕ) (n : ℕ) (plain : rules.IsPlain p rest) where
   lexeme_same : (x : Lexeme) → IsStack p.lines ws → IsLexeme rest n (token x) → Same (gives p 0 x n n false rest) (step (at p ws rest))
@@ -564,7 +536,7 @@ module _ (p : Past) (ws : List ℕ) (stack : IsStack p.lines ws) (w : ℕ) where
   not_open h = elim (cases_Bool (is_open ws w)) [ inr e ↦ e | inl e ↦ absurd (h (widths.open_test p.lines ws stack w e)) ]
 
   not_deeper : is_open ws w ≡ false → (IsDeeper p.lines w → ⊥) → eqb (kept ws w) (length ws) ≡ false
-  not_deeper shut h = differs _ _ (λ e. h (all_deeper shut e))
+  not_deeper shut h = ne_eqb _ _ (λ e. h (all_deeper shut e))
 
 -- ---- f-strings
 
@@ -632,7 +604,7 @@ module _ (p : Past) (ws rest : List ℕ) (md : IsMeasured p rest) where
 
 joined_yes : (p : Past) → rules.IsJoined p → is_joined (state_of p) ≡ true
 joined_yes p (inl (b, g, bs, e)) = ap (λ m. joined_in (mode_of m) (not (eqb (count_by opening_item p.items) (count_by closing_item p.items)))) e
-joined_yes p (inr (e, odd)) = ap (λ m. joined_in (mode_of m) (not (eqb (count_by opening_item p.items) (count_by closing_item p.items)))) e ∙ ap not (differs _ _ odd)
+joined_yes p (inr (e, odd)) = ap (λ m. joined_in (mode_of m) (not (eqb (count_by opening_item p.items) (count_by closing_item p.items)))) e ∙ ap not (ne_eqb _ _ odd)
 
 joined_no : (p : Past) → p.mode ≡ rules.code → IsBalanced p → is_joined (state_of p) ≡ false
 joined_no p e even = ap (λ m. joined_in (mode_of m) (not (eqb (count_by opening_item p.items) (count_by closing_item p.items)))) e ∙ ap not (eq-eqb _ _ even)
@@ -721,7 +693,7 @@ module _ (p : Past) (ws rest : List ℕ) (stack : IsStack p.lines ws) (f : p.fre
         | inr t ↦ elim (cases_Bool (is_open ws w)) [
           | inl o ↦ (_, rules.fits p rest (filter (λ x. ltb w x) ws) md t (widths.open_test p.lines ws stack w o) (widths.closes p.lines ws stack w))
           | inr shut ↦ elim (cases_Bool (eqb (kept ws w) (length ws))) [
-            | inl all ↦ (_, rules.deepens p rest md t (all_deeper p ws stack w shut (equal_from _ _ all)))
+            | inl all ↦ (_, rules.deepens p rest md t (all_deeper p ws stack w shut (eqb-true _ _ all)))
             | inr less ↦ (_, rules.misfits p rest md t (λ d. false≢true (sym less ∙ eq-eqb _ _ (deeper_all p ws stack w d))) (λ o. false≢true (sym shut ∙ widths.test_open p.lines ws stack w o)))
           ]
         ]
@@ -731,9 +703,9 @@ module _ (p : Past) (ws rest : List ℕ) (stack : IsStack p.lines ws) (f : p.fre
   goes_line [] e = (_, rules.last_line p rest ws f (omega (arith, ap length e, length-drop (leading rest) rest, prefix_len-le-length is_blank rest)) (record { once = stack.once; each = stack.each }))
   goes_line (b ∷ more) e =
       elim (cases_Bool (eqb b 10)) [
-        | inl t ↦ (_, rules.blank_line p rest more f (e ∙ ap (λ x. x ∷ more) (equal_from b 10 t)))
+        | inl t ↦ (_, rules.blank_line p rest more f (e ∙ ap (λ x. x ∷ more) (eqb-true b 10 t)))
         | inr t ↦ elim (cases_Bool (eqb b 35)) [
-          | inl u ↦ (_, rules.remark_line p rest more f (e ∙ ap (λ x. x ∷ more) (equal_from b 35 u)))
+          | inl u ↦ (_, rules.remark_line p rest more f (e ∙ ap (λ x. x ∷ more) (eqb-true b 35 u)))
           | inr u ↦ goes_measured b more e (λ q. false≢true (sym t ∙ eq-eqb b 10 q)) (λ q. false≢true (sym u ∙ eq-eqb b 35 q))
         ]
       ]
@@ -779,7 +751,7 @@ plain_goes p b bs f c k l r e =
 closes_goes : (p : Past) (c : ℕ) (g : Form) (cs : List Bracket) (b : ℕ) (bs : List ℕ) → p.fresh ≡ false → p.mode ≡ rules.field c g cs → IsDepth cs 0 → closes_field (b ∷ bs) ≡ true → Goes p (b ∷ bs)
 closes_goes p c g cs b bs f m h k =
     elim (cases_Bool (eqb b 125)) [
-      | inl e ↦ subst (λ v. Goes p (v ∷ bs)) (sym (equal_from b 125 e)) (_, rules.shuts p c g cs bs f m h)
+      | inl e ↦ subst (λ v. Goes p (v ∷ bs)) (sym (eqb-true b 125 e)) (_, rules.shuts p c g cs bs f m h)
       | inr e ↦
           let b33 : b ≡ 33 = grind (arith, nat_tests) in
           subst (λ v. Goes p (v ∷ bs)) (sym b33) (_, rules.bangs p c g cs bs f m h (subst (λ v. closes_field (v ∷ bs) ≡ true) b33 k))
@@ -793,9 +765,9 @@ code_goes p ws (b ∷ bs) stack f c =
       | inl k ↦ (_, rules.passes p b bs f c k)
       | inr k ↦
           elim (cases_Bool (eqb b 10)) [
-            | inl l ↦ subst (λ v. Goes p (v ∷ bs)) (sym (equal_from b 10 l)) (elim (mode_cases p.mode) [
+            | inl l ↦ subst (λ v. Goes p (v ∷ bs)) (sym (eqb-true b 10 l)) (elim (mode_cases p.mode) [
               | inl m ↦ elim (cases_Bool (eqb (count_by opening_item p.items) (count_by closing_item p.items))) [
-                | inl even ↦ (_, rules.ends_line p bs f m (equal_from _ _ even))
+                | inl even ↦ (_, rules.ends_line p bs f m (eqb-true _ _ even))
                 | inr odd ↦ (_, rules.joins p bs f (inr (m, (λ q. false≢true (sym odd ∙ eq-eqb _ _ q)))))
               ]
               | inr more ↦ elim more [
@@ -804,7 +776,7 @@ code_goes p ws (b ∷ bs) stack f c =
               ]
             ])
             | inr l ↦ elim (cases_Bool (eqb b 35)) [
-              | inl r ↦ subst (λ v. Goes p (v ∷ bs)) (sym (equal_from b 35 r)) (_, rules.remark p bs f c)
+              | inl r ↦ subst (λ v. Goes p (v ∷ bs)) (sym (eqb-true b 35 r)) (_, rules.remark p bs f c)
               | inr r ↦ elim (cases_Bool (closes_field (b ∷ bs))) [
                 | inr e ↦ plain_goes p b bs f c k l r (λ v g vs m h. e)
                 | inl e ↦ elim (mode_cases p.mode) [
@@ -812,7 +784,7 @@ code_goes p ws (b ∷ bs) stack f c =
                   | inr more ↦ elim more [
                     | inl m ↦ absurd (false≢true (sym c ∙ ap rules.is_inside m.2))
                     | inr m ↦ elim (cases_Bool (eqb (depth_in m.2) 0)) [
-                      | inl z ↦ closes_goes p m.0 m.1 m.2 b bs f m.3 (subst (IsDepth m.2) (equal_from _ _ z) (depth_is m.2)) e
+                      | inl z ↦ closes_goes p m.0 m.1 m.2 b bs f m.3 (subst (IsDepth m.2) (eqb-true _ _ z) (depth_is m.2)) e
                       | inr z ↦ plain_goes p b bs f c k l r (λ v g vs n h. absurd (false≢true (sym z ∙ eq-eqb _ _ (one_depth m.2 (depth_in m.2) 0 (depth_is m.2) (subst (λ us. IsDepth us 0) (field_same v m.0 g m.1 vs m.2 (sym n ∙ m.3)) h)))))
                     ]
                   ]

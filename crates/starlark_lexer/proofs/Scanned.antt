@@ -1,7 +1,7 @@
 -- What `scan` finds, literals among it, is the longest front of the text in any class.
 use Rattle.std.proofs.Common.{◌≡◌, ◌<◌, ◌≤◌, ℕ, ◌-◌, Bool, true, false, not, ◌&&◌, ◌||◌, List, [], ◌∷◌, length, take, get_or, refl, ap, sym, ◌∙◌, arith, zero, suc, inl, inr, eqb, ltb}
 use Rattle.std.specs.Prelude.{Option, Some, None}
-use Rattle.std.proofs.lemmas.Bool.{cases_Bool, false≢true}
+use Rattle.std.proofs.lemmas.Bool.{cases_Bool, false≢true, and_right}
 use Rattle.std.proofs.lemmas.Bool.Decides.{nat_tests}
 use Rattle.std.proofs.lemmas.List.{length-take-le, get_or-take}
 use Rattle.std.proofs.lemmas.List.Folds.{list_all_at}
@@ -17,15 +17,11 @@ use Rattle.starlark_lexer.proofs.Longest.{Scanned, longest_lexeme, more_found, b
 use Rattle.starlark_lexer.proofs.Openings.{IsOpening, begins_opening, opening_none, opening_some, opening_first, opening_last}
 use Rattle.starlark_lexer.proofs.Tables.{begins_operator, no_operator}
 
-and_false : (t : Bool) → (t && false) ≡ false
-and_false true = refl
-and_false false = refl
-
 word_not : (w : List ℕ) (i : ℕ) → i < length w → is_word_byte (get_or w i 0) ≡ false → is_word w ≡ false
 word_not [] i lt h = absurd (omega arith)
 word_not (b ∷ bs) zero lt h =
     elim (cases_Bool (begins_word b)) [ inr e ↦ rw e refl | inl e ↦ absurd (false≢true (sym h ∙ begins_goes b e)) ]
-word_not (b ∷ bs) (suc i) lt h = let e : list_all is_word_byte bs ≡ false = list_all_at is_word_byte bs i 0 (omega arith) h in ap (λ t. begins_word b && t) e ∙ and_false (begins_word b)
+word_not (b ∷ bs) (suc i) lt h = let e : list_all is_word_byte bs ≡ false = list_all_at is_word_byte bs i 0 (omega arith) h in ap (λ t. begins_word b && t) e ∙ and_right (begins_word b) false refl
 
 mark_not : (b : ℕ) → is_mark b ≡ true → is_word_byte b ≡ false
 mark_not b h = grind (arith, nat_tests)

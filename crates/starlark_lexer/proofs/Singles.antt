@@ -1,7 +1,7 @@
 -- An operator of one byte goes first where no byte behind it stands second in an operator.
 use Rattle.std.proofs.Common.{◌≡◌, ◌<◌, ℕ, Bool, true, false, not, cond, ◌&&◌, List, [], ◌∷◌, length, take, drop, get_or, refl, ap, sym, ◌∙◌, arith, inl, inr}
 use Rattle.std.specs.Prelude.{Option, Some, None, IfSome, nat_eq}
-use Rattle.std.proofs.lemmas.Bool.{cases_Bool, false≢true}
+use Rattle.std.proofs.lemmas.Bool.{cases_Bool, false≢true, and_parts}
 use Rattle.std.proofs.lemmas.Slice.Eq.{bytes_eq-Decides}
 use Rattle.std.specs.List.{starts_with}
 use Rattle.std.specs.Str.{bytes_eq}
@@ -9,7 +9,7 @@ use Rattle.starlark_lexer.specs.declared.words.Operator.{Operator}
 use Rattle.starlark_lexer.specs.Classes.{lookup, operators, operator_of}
 use Rattle.starlark_lexer.specs.Scan.{first_row}
 use Rattle.starlark_lexer.specs.FirstBytes.{is_second}
-use Rattle.starlark_lexer.proofs.Tables.{Row, both}
+use Rattle.starlark_lexer.proofs.Tables.{Row}
 
 -- the row has a byte, and its second one, if it has one, is one of those
 abbrev second_in : List ℕ → Bool
@@ -40,7 +40,7 @@ row_alone (c ∷ d ∷ cs) b (y ∷ ys) h e =
 first_alone : (table : List Row) (b : ℕ) (rest : List ℕ) (o : Operator) → all_in table ≡ true → ends_single rest ≡ true → lookup table (b ∷ []) ≡ Some o → first_row table (b ∷ rest) ≡ Some (o, 1)
 first_alone [] b rest o h e f = cc
 first_alone (r ∷ rs) b rest o h e f =
-    let x = both (second_in r.0) (all_in rs) h in
+    let x = and_parts (second_in r.0) (all_in rs) h in
     let same = row_alone r.0 b rest x.0 e in
     elim (cases_Bool (bytes_eq r.0 (b ∷ []))) [
       | inl t ↦

@@ -2,6 +2,7 @@
 use Rattle.std.proofs.Common.{◌≡◌, ◌<◌, ◌≤◌, ℕ, ◌+◌, ◌-◌, Bool, true, false, ◌||◌, List, [], ◌∷◌, length, take, get_or, refl, ap, sym, ◌∙◌, arith, zero, suc, inl, inr, eqb, ltb, leb, subst, one-add}
 use Rattle.std.proofs.lemmas.Bool.{cases_Bool, false≢true}
 use Rattle.std.proofs.lemmas.Bool.Decides.{nat_tests}
+use Rattle.std.proofs.lemmas.List.{nil_from_length}
 use Rattle.std.specs.List.{filter}
 use Rattle.std.specs.List.Sorted.{IsStrictlyIncreasing}
 use Rattle.starlark_lexer.specs.Widths.{has, Closes}
@@ -59,7 +60,7 @@ first_below x (y ∷ ys) h z e =
 below_all : (x : ℕ) (xs : List ℕ) → IsStrictlyIncreasing (x ∷ xs) → (z : ℕ) → has xs z ≡ true → x < z
 below_all x xs h = first_below x xs (above_first x xs h)
 
-has_first : (x : ℕ) (xs : List ℕ) → has (x ∷ xs) x ≡ true
+pub has_first : (x : ℕ) (xs : List ℕ) → has (x ∷ xs) x ≡ true
 has_first x xs = let e : eqb x x ≡ true = grind (arith, nat_tests) in rw e refl
 
 one_of : (x : ℕ) (xs : List ℕ) → IsStrictlyIncreasing (x ∷ xs) → (z : ℕ) → has (x ∷ xs) z ≡ true → x ≤ z
@@ -97,10 +98,6 @@ same_test false false f g = refl
 pub same_closes : (lines : List ℕ) (w : ℕ) (xs ys : List ℕ) → Closes lines w xs → Closes lines w ys → length xs ≡ length ys
 same_closes lines w xs ys a b = same_length xs ys a.once b.once (λ z. same_test (has xs z) (has ys z) (λ h. (b.each z).1 ((a.each z).0 h)) (λ h. (a.each z).1 ((b.each z).0 h)))
 
-empty : (xs : List ℕ) → length xs ≡ 0 → xs ≡ []
-empty [] h = refl
-empty (x ∷ xs) h = absurd (omega arith)
-
 -- ---- at a line
 
 pub closes_count : (lines ws : List ℕ) (w : ℕ) → IsStack lines ws → Closes lines w (filter (λ x. ltb w x) ws) → (closed : List ℕ) → Closes lines w closed → length ws - kept ws w ≡ length closed
@@ -108,4 +105,4 @@ closes_count lines ws w stack mine closed h = sym (above_filter ws w stack.once)
 
 -- nothing is above the width where all of the stack stays
 pub none_above : (ws : List ℕ) (w : ℕ) → IsStrictlyIncreasing ws → kept ws w ≡ length ws → (z : ℕ) → has (filter (λ x. ltb w x) ws) z ≡ false
-none_above ws w h all z = ap (λ ys. has ys z) (empty _ (above_filter ws w h ∙ (let e : length ws - kept ws w ≡ 0 = omega arith in e)))
+none_above ws w h all z = ap (λ ys. has ys z) (nil_from_length _ (above_filter ws w h ∙ (let e : length ws - kept ws w ≡ 0 = omega arith in e)))

@@ -1,8 +1,7 @@
 -- The first row of a falling table that begins a text is the longest.
 use Rattle.std.proofs.Common.{◌≡◌, ◌<◌, ◌≤◌, ℕ, Bool, true, false, not, cond, ◌&&◌, List, [], ◌∷◌, length, take, get_or, refl, ap, sym, ◌∙◌, arith, inl, inr}
 use Rattle.std.specs.Prelude.{Option, Some, None, nat_eq, nat_lt, nat_le, ◌==◌, ◌||◌}
-use Rattle.std.proofs.lemmas.Bool.{cases_Bool, false≢true, leb-true}
-use Rattle.std.proofs.lemmas.Bool.Decides.{nat_tests}
+use Rattle.std.proofs.lemmas.Bool.{cases_Bool, false≢true, leb-true, and_parts, ltb-true}
 use Rattle.std.proofs.lemmas.List.{length-take-le, length-take}
 use Rattle.std.proofs.lemmas.Slice.Eq.{bytes_eq-Decides}
 use Rattle.std.specs.List.{starts_with}
@@ -25,10 +24,6 @@ abbrev pub falls : List Row → Bool
 falls [] = true
 falls (r ∷ rs) = nat_lt 0 (length r.0) && at_most (length r.0) rs && falls rs
 
-pub both : (a b : Bool) → (a && b) ≡ true → (a ≡ true) × (b ≡ true)
-both true b h = (refl, h)
-both false b h = absurd (false≢true h)
-
 -- a row that is a front of the text begins it
 no_front : (r xs : List ℕ) (k : ℕ) → starts_with nat_eq xs r ≡ false → k ≤ length xs → bytes_eq r (take k xs) ≡ false
 no_front r xs k misses fits =
@@ -44,8 +39,8 @@ no_front r xs k misses fits =
 too_long : (n : ℕ) (rs : List Row) (xs : List ℕ) (k : ℕ) → at_most n rs ≡ true → n < k → k ≤ length xs → lookup rs (take k xs) ≡ None
 too_long n [] xs k h more fits = refl
 too_long n (r ∷ rs) xs k h more fits =
-    let b1 = both (nat_lt 0 (length r.0) && nat_le (length r.0) n) (at_most n rs) h in
-    let b2 = both (nat_lt 0 (length r.0)) (nat_le (length r.0) n) b1.0 in
+    let b1 = and_parts (nat_lt 0 (length r.0) && nat_le (length r.0) n) (at_most n rs) h in
+    let b2 = and_parts (nat_lt 0 (length r.0)) (nat_le (length r.0) n) b1.0 in
     let short : length r.0 ≤ n = leb-true (length r.0) n b2.1 in
     elim (cases_Bool (bytes_eq r.0 (take k xs))) [
       | inl e ↦ absurd (omega (arith, ap length ((bytes_eq-Decides r.0 (take k xs)).0 e), length-take-le k xs fits))
@@ -62,9 +57,6 @@ abbrev pub Right : List Row → List ℕ → Option (Operator × ℕ) → Type 0
 Right table xs None = (k : ℕ) → k ≤ length xs → lookup table (take k xs) ≡ None
 Right table xs (Some x) = Longest table xs x.1 x.0
 
-below_from : (a b : ℕ) → nat_lt a b ≡ true → a < b
-below_from a b h = grind (arith, nat_tests)
-
 other : (r : Row) (xs : List ℕ) (k : ℕ) → length r.0 < k → k ≤ length xs → bytes_eq r.0 (take k xs) ≡ false
 other r xs k more fits =
     elim (cases_Bool (bytes_eq r.0 (take k xs))) [
@@ -74,9 +66,9 @@ other r xs k more fits =
 
 at_head : (r : Row) (rs : List Row) (xs : List ℕ) → falls (r ∷ rs) ≡ true → starts_with nat_eq xs r.0 ≡ true → Longest (r ∷ rs) xs (length r.0) r.1
 at_head r rs xs h e =
-    let b1 = both (nat_lt 0 (length r.0) && at_most (length r.0) rs) (falls rs) h in
-    let b2 = both (nat_lt 0 (length r.0)) (at_most (length r.0) rs) b1.0 in
-    let some : 0 < length r.0 = below_from 0 (length r.0) b2.0 in
+    let b1 = and_parts (nat_lt 0 (length r.0) && at_most (length r.0) rs) (falls rs) h in
+    let b2 = and_parts (nat_lt 0 (length r.0)) (at_most (length r.0) rs) b1.0 in
+    let some : 0 < length r.0 = ltb-true 0 (length r.0) b2.0 in
     let same : r.0 ≡ take (length r.0) xs = (bytes_eq-Decides r.0 (take (length r.0) xs)).0 e in
     let fits : length r.0 ≤ length xs = omega (arith, ap length same, length-take (length r.0) xs) in
     record {
@@ -100,7 +92,7 @@ first_right [] xs h = λ k fits. refl
 first_right (r ∷ rs) xs h =
     elim (cases_Bool (starts_with nat_eq xs r.0)) [
       | inl e ↦ rw e (at_head r rs xs h e)
-      | inr e ↦ rw e (later r rs xs (first_row rs xs) e (first_right rs xs (both _ _ h).1))
+      | inr e ↦ rw e (later r rs xs (first_row rs xs) e (first_right rs xs (and_parts _ _ h).1))
     ]
 
 pub operators_right : (xs : List ℕ) → Right operators xs (first_row operators xs)
@@ -115,8 +107,8 @@ len_of (Some x) = x.1
 first_short : (n : ℕ) (table : List Row) (xs : List ℕ) → at_most n table ≡ true → len_of (first_row table xs) ≤ n
 first_short n [] xs h = omega arith
 first_short n (r ∷ rs) xs h =
-    let b1 = both (nat_lt 0 (length r.0) && nat_le (length r.0) n) (at_most n rs) h in
-    let b2 = both (nat_lt 0 (length r.0)) (nat_le (length r.0) n) b1.0 in
+    let b1 = and_parts (nat_lt 0 (length r.0) && nat_le (length r.0) n) (at_most n rs) h in
+    let b2 = and_parts (nat_lt 0 (length r.0)) (nat_le (length r.0) n) b1.0 in
     elim (cases_Bool (starts_with nat_eq xs r.0)) [
       | inl e ↦ rw e (leb-true (length r.0) n b2.1)
       | inr e ↦ rw e (first_short n rs xs b1.1)
@@ -150,7 +142,7 @@ row_not (c ∷ cs) b ys h e =
 
 rows_not : (rs : List Row) (b : ℕ) (ys : List ℕ) → all_begin rs ≡ true → begins_operator b ≡ false → lookup rs (b ∷ ys) ≡ None
 rows_not [] b ys h e = refl
-rows_not (r ∷ rs) b ys h e = let x = both (first_begins r.0) (all_begin rs) h in let n = row_not r.0 b ys x.0 e in rw n (rows_not rs b ys x.1 e)
+rows_not (r ∷ rs) b ys h e = let x = and_parts (first_begins r.0) (all_begin rs) h in let n = row_not r.0 b ys x.0 e in rw n (rows_not rs b ys x.1 e)
 
 pub no_operator : (b : ℕ) (ys : List ℕ) → begins_operator b ≡ false → operator_of (b ∷ ys) ≡ None
 unfolding operator_of
@@ -175,7 +167,7 @@ row_second w b y ys h d =
 
 rows_second : (rs : List Row) (b y : ℕ) (ys : List ℕ) → all_second rs ≡ true → is_ascii_digit y ≡ true → lookup rs (b ∷ y ∷ ys) ≡ None
 rows_second [] b y ys h d = refl
-rows_second (r ∷ rs) b y ys h d = let x = both (second_not r.0) (all_second rs) h in let n = row_second r.0 b y ys x.0 d in rw n (rows_second rs b y ys x.1 d)
+rows_second (r ∷ rs) b y ys h d = let x = and_parts (second_not r.0) (all_second rs) h in let n = row_second r.0 b y ys x.0 d in rw n (rows_second rs b y ys x.1 d)
 
 pub no_pointed : (y : ℕ) (ys : List ℕ) → is_ascii_digit y ≡ true → operator_of (46 ∷ y ∷ ys) ≡ None
 unfolding operator_of

@@ -1,6 +1,6 @@
 -- The value of a body is built from whole plain runs and the pieces between them.
-use Rattle.std.proofs.Common.{◌≡◌, ◌<◌, ℕ, ◌+◌, Bool, true, false, cond, ◌||◌, List, [], ◌∷◌, ◌++◌, ◌&&◌, Option, Some, None, length, take, drop, get_or, refl, ap, sym, ◌∙◌, arith, inl, inr, eqb, subst, one-add, append_assoc, add-zero, IsUtf8}
-use Rattle.std.proofs.lemmas.Bool.{cases_Bool, false≢true}
+use Rattle.std.proofs.Common.{◌≡◌, ◌<◌, ℕ, ◌+◌, true, false, cond, ◌||◌, List, [], ◌∷◌, ◌++◌, ◌&&◌, Option, Some, None, length, take, drop, get_or, refl, ap, sym, ◌∙◌, arith, inl, inr, eqb, subst, one-add, append_assoc, add-zero, IsUtf8}
+use Rattle.std.proofs.lemmas.Bool.{cases_Bool, false≢true, and_right, cond-false}
 use Rattle.std.proofs.lemmas.Bool.Decides.{nat_tests}
 use Rattle.std.proofs.lemmas.List.{append-nil, get_or-drop, length-drop, drop-drop}
 use Rattle.std.proofs.lemmas.List.Sums.{prefix_len_stops, prefix_len-le-length}
@@ -33,13 +33,6 @@ no_mark Double b h = grind (arith, nat_tests)
 no_mark TripleSingle b h = grind (arith, nat_tests)
 no_mark TripleDouble b h = grind (arith, nat_tests)
 
-and_false : (b : Bool) → (b && false) ≡ false
-and_false true = refl
-and_false false = refl
-
-never : (p q : Piece) (t : Bool) → t ≡ false → cond t p q ≡ q
-never p q t h = ap (λ u. cond u p q) h
-
 plain_piece : (f : Form) (b : ℕ) (bs : List ℕ) → is_plain b ≡ true → piece f (b ∷ bs) ≡ Same 1
 unfolding piece
 plain_piece f b bs h =
@@ -48,7 +41,7 @@ plain_piece f b bs h =
     let e2 : eqb b 10 ≡ false = grind (arith, nat_tests) in
     let e3 : eqb b 92 ≡ false = grind (arith, nat_tests) in
     let e4 : (eqb b 123 || eqb b 125) ≡ false = grind (arith, nat_tests) in
-    never _ _ _ (ap (λ t. t && goes_on f.quote bs) e0) ∙ never _ _ _ e1 ∙ never _ _ _ e2 ∙ never _ _ _ e3 ∙ never _ _ _ (ap (λ t. is_format f.sort && t) e4 ∙ and_false (is_format f.sort))
+    cond-false _ _ _ (ap (λ t. t && goes_on f.quote bs) e0) ∙ cond-false _ _ _ e1 ∙ cond-false _ _ _ e2 ∙ cond-false _ _ _ e3 ∙ cond-false _ _ _ (ap (λ t. is_format f.sort && t) e4 ∙ and_right (is_format f.sort) false refl)
 
 -- the value behind a plain run
 pub run : (f : Form) (xs : List ℕ) → value f xs ≡ take (prefix_len is_plain xs) xs ++ value f (drop (prefix_len is_plain xs) xs)
@@ -180,9 +173,6 @@ pub at_end_of : (f : Form) (v xs all : List ℕ) → v ++ value f xs ≡ all →
 unfolding read
 at_end_of f v [] all is e = sym (append-nil v) ∙ is
 at_end_of f v (x ∷ xs) all is e = absurd (omega (arith, e))
-
-pub zero_from : (n : ℕ) → eqb n 0 ≡ true → n ≡ 0
-zero_from n h = grind (arith, nat_tests)
 
 pub front_is : (xs front : List ℕ) (n : ℕ) → front ≡ take n xs → n ≡ prefix_len is_plain xs → front ≡ take (prefix_len is_plain xs) xs
 front_is xs front n f e = f ∙ ap (λ k. take k xs) e

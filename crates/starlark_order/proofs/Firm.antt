@@ -4,7 +4,7 @@ use Rattle.starlark_lexer.specs.Items.{Lexeme, Item, item, Lexed, dedents, fstri
 use Rattle.starlark_lexer.specs.Literals.{quotes, value}
 use Rattle.starlark_lexer.specs.Lex.{Past, Move, Step, Lex, on, over, start, goes_on, is_over}
 use Rattle.starlark_lexer.specs.Lex as rules
-use Rattle.starlark_lexer.proofs.Cuts.{quotes_some}
+use Rattle.starlark_lexer.proofs.Openings.{quotes_some}
 use Rattle.starlark_order.specs.Ordered.{HaveBytes}
 
 -- what a step gives

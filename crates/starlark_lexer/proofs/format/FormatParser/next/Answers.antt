@@ -2,8 +2,9 @@ use Rattle.std.proofs.Common.{refl, ◌≡◌, ◌+◌, ◌-◌, length, drop, t
 use Rattle.starlark_lexer.specs.declared.format.Turn.TheVariants.{Over, Text, Escape, Capture, Fault}
 use Rattle.starlark_lexer.specs.Format.{with_part, text, capture, escape}
 use Rattle.starlark_lexer.specs.FormatScan.{turn, parsed}
-use Rattle.starlark_lexer.proofs.Formats.{cuts_of, boundary_text, boundary_after, boundary_name, step, over, fault, first}
+use Rattle.starlark_lexer.proofs.Formats.{cuts_of, boundary_text, boundary_name, step, over, fault, first}
 use Rattle.starlark_lexer.proofs.format.FormatParser.next.Goals as goal
+use Rattle.starlark_lexer.proofs.Ascii.{boundary_after}
 
 pub range_from-self-inside-requires : goal.range_from-self-inside-requires
 range_from-self-inside-requires c =
