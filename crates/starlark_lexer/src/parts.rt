@@ -14,7 +14,9 @@ use crate::layout::line_turn;
 use crate::literal::Form;
 use crate::making::token;
 use crate::scan::{Kind, Mode, State, Turn, gap, here, text_here};
-use crate::state::{after, begin_of, body_of, field_of, in_text, is_joined, pop, turned};
+use crate::state::{
+    advance, begin_of, body_of, field_of, in_text, is_joined, pass_lexeme, pop, turned,
+};
 use crate::token::{LexemeError, Token};
 use std::alloc::Global;
 
@@ -166,12 +168,9 @@ fn give(
     ensures reaches { Reaches (Some result) parts.new.state.place }
 {
     let place = parts.state.place;
-    parts.state = after(parts.state, begin, kind, len, next, fresh);
-    match token(
-        parts.alloc,
-        kind,
-        &parts.text[place + begin..place + begin + len],
-    ) {
+    let text = &parts.text[place + begin..place + begin + len];
+    pass_lexeme(&mut parts.state, begin, kind, len, next, fresh);
+    match token(parts.alloc, kind, text) {
         Ok(token) => Ok((place + begin, token, place + begin + len)),
         Err(_) => {
             parts.over = true;
@@ -333,7 +332,7 @@ fn pass_over(parts: &mut Parts)
     let mut reads = parts.reads;
     let gap = gap(joined, &bytes[parts.state.place..], &mut reads);
     parts.reads = reads;
-    parts.state = turned(parts.state, gap, parts.state.mode);
+    advance(&mut parts.state, gap);
 }
 
 /// What comes among lexemes where nothing is passed over.

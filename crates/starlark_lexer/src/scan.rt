@@ -485,18 +485,17 @@ pub(crate) fn line_len(bytes: &[u8], reads: &mut u64) -> usize
 }
 
 #[tactic(auto, unfolding(crate::specs::Scan::pass))]
-/// How many bytes are passed over at once: 0 where none is.
+/// How many bytes are passed over at once: 0 where none is. The look at the first of them is not counted.
 fn pass(joined: bool, bytes: &[u8], reads: &mut u64) -> usize
     ensures value { result ≡ spec.pass joined bytes.now }
     ensures within { result ≤ length bytes.now }
-    ensures paid { reads.new ≤ reads.old + 1 + (if classes.begins 92 bytes.now then 2 else 0) }
-    ensures on { 0 < result → reads.new ≤ reads.old + 2 * result }
-    ensures looked { Grows reads.old result reads.new }
+    ensures paid { reads.new ≤ reads.old + (if classes.begins 92 bytes.now then 2 else 0) }
+    ensures on { 0 < result → reads.new ≤ reads.old + result }
+    ensures looked { Grows reads.old 0 reads.new }
 {
     if bytes.is_empty() {
         return 0;
     }
-    look(reads, 1);
     let b = bytes[0];
     if is_in(Class::Blank, b) {
         1
@@ -522,6 +521,7 @@ pub(crate) fn gap(joined: bool, bytes: &[u8], reads: &mut u64) -> usize
     loop {
         let len = pass(joined, &bytes[end..], reads);
         if len == 0 {
+            look(reads, if end < bytes.len() { end + 1 } else { end });
             return end;
         }
         end += len;

@@ -30,29 +30,26 @@ fn closes(kind: Kind) -> usize
     }
 }
 
-/// The state behind a lexeme.
-pub(crate) fn after(
-    state: State,
+/// Goes on behind a lexeme.
+pub(crate) fn pass_lexeme(
+    state: &mut State,
     begin: usize,
     kind: Kind,
     len: usize,
     next: usize,
     fresh: bool,
-) -> State
-    requires opened { state.opened < 2 ^ 63 }
-    requires closed { state.closed < 2 ^ 63 }
-    requires place { state.place + begin + len < 2 ^ 64 }
-    requires next { state.place + next < 2 ^ 64 }
-    requires depth { depth_of state.mode < 2 ^ 63 }
-    ensures value { result ≡ spec.after state begin kind len next fresh }
-    ensures place { result.place ≡ state.place + next }
+)
+    requires opened { state.old.opened < 2 ^ 63 }
+    requires closed { state.old.closed < 2 ^ 63 }
+    requires place { state.old.place + begin + len < 2 ^ 64 }
+    requires next { state.old.place + next < 2 ^ 64 }
+    requires depth { depth_of state.old.mode < 2 ^ 63 }
+    ensures value { state.new ≡ spec.after state.old begin kind len next fresh }
+    ensures place { state.new.place ≡ state.old.place + next }
 {
     let place = state.place;
-    let mut state = State {
-        place: place + next,
-        fresh,
-        ..state
-    };
+    state.place = place + next;
+    state.fresh = fresh;
     match state.mode {
         Mode::Code => {
             state.opened += opens(kind);
@@ -64,7 +61,6 @@ pub(crate) fn after(
         }
         mode => state.mode = mode_after(mode, kind),
     }
-    state
 }
 
 /// The mode behind a lexeme.
@@ -88,6 +84,16 @@ fn is_newline(kind: Kind) -> bool
         Kind::Newline => true,
         _ => false,
     }
+}
+
+/// Goes on by so many bytes within a line.
+pub(crate) fn advance(state: &mut State, n: usize)
+    requires within { state.old.fresh ≡ false }
+    requires fits { state.old.place + n < 2 ^ 64 }
+    ensures value { state.new ≡ spec.turned state.old n state.old.mode }
+    ensures place { state.new.place ≡ state.old.place + n }
+{
+    state.place += n;
 }
 
 pub(crate) fn turned(state: State, n: usize, mode: Mode) -> State

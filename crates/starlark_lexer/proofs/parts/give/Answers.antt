@@ -1,4 +1,4 @@
-use Rattle.std.proofs.Common.{◌≡◌, ◌+◌, ◌-◌, arith, sym, ◌∙◌, ap, drop, take, subst, length-drop}
+use Rattle.std.proofs.Common.{◌≡◌, ◌+◌, ◌-◌, arith, sym, ◌∙◌, ap, drop, take, subst}
 use Rattle.starlark_lexer.specs.Items.{takes_memory}
 use Rattle.starlark_lexer.specs.Scan.{lexeme_from}
 use Rattle.starlark_lexer.specs.Parts.{IsSound}
@@ -7,36 +7,30 @@ use Rattle.starlark_lexer.proofs.Sounds.{after_sound}
 use Rattle.starlark_lexer.proofs.Hands.{item_left, item_lacks, over_left}
 use Rattle.starlark_lexer.proofs.parts.give.Goals as goal
 
-pub after-parts-requires-clause-place : goal.after-parts-requires-clause-place
-after-parts-requires-clause-place c =
-    let a = c.args.parts.now in
-    let cuts = subst (Cuts (drop a.state.place a.text.now)) c.requires.is c.requires.comes.cuts in
-    omega (arith, cuts.fits, cuts.within, length-drop a.state.place a.text.now, c.requires.whole.boundary.0, c.type_inv.parts)
-
 pub returns-in-Ok-clause-whole : goal.returns-in-Ok-clause-whole
 returns-in-Ok-clause-whole c =
     let a = c.args.parts.now in
     let cuts = subst (Cuts (drop a.state.place a.text.now)) c.requires.is c.requires.comes.cuts in
     let bounds = subst (Bounds (drop a.state.place a.text.now)) c.requires.is c.requires.comes.bounds in
-    subst (λ s. IsSound a.text.now s a.outer.items a.margin) (sym c.after-parts.ensures.value) (after_sound a.text.now a.state a.outer.items a.margin c.args.begin c.args.kind c.args.len c.args.next c.args.fresh c.requires.whole cuts bounds)
+    subst (λ s. IsSound a.text.now s a.outer.items a.margin) (sym c.pass_lexeme.ensures.value) (after_sound a.text.now a.state a.outer.items a.margin c.args.begin c.args.kind c.args.len c.args.next c.args.fresh c.requires.whole cuts bounds)
 
 pub returns-in-Err-clause-whole : goal.returns-in-Err-clause-whole
 returns-in-Err-clause-whole c =
     let a = c.args.parts.now in
     let cuts = subst (Cuts (drop a.state.place a.text.now)) c.requires.is c.requires.comes.cuts in
     let bounds = subst (Bounds (drop a.state.place a.text.now)) c.requires.is c.requires.comes.bounds in
-    subst (λ s. IsSound a.text.now s a.outer.items a.margin) (sym c.after-parts.ensures.value) (after_sound a.text.now a.state a.outer.items a.margin c.args.begin c.args.kind c.args.len c.args.next c.args.fresh c.requires.whole cuts bounds)
+    subst (λ s. IsSound a.text.now s a.outer.items a.margin) (sym c.pass_lexeme.ensures.value) (after_sound a.text.now a.state a.outer.items a.margin c.args.begin c.args.kind c.args.len c.args.next c.args.fresh c.requires.whole cuts bounds)
 
 pub returns-in-Ok-clause-gives : goal.returns-in-Ok-clause-gives
 returns-in-Ok-clause-gives c =
     let a = c.args.parts.now in
     let j : a.state.place + c.args.begin + c.args.len - (a.state.place + c.args.begin) ≡ c.args.len = omega arith in
-    let text = c.range.ensures.value ∙ ap (λ k. take k (drop (a.state.place + c.args.begin) a.text.now)) j in
-    item_left a c.args.turn c.args.begin c.args.kind c.args.len c.args.next c.args.fresh c.requires.ready c.requires.comes c.requires.is c.after-parts.result _ c.after-parts.ensures.value (c.in-Ok.ensures ∙ ap (lexeme_from c.args.kind) text)
+    let text = c.range-text.ensures.value ∙ ap (λ k. take k (drop (a.state.place + c.args.begin) a.text.now)) j in
+    item_left a c.args.turn c.args.begin c.args.kind c.args.len c.args.next c.args.fresh c.requires.ready c.requires.comes c.requires.is c.pass_lexeme.new.state _ c.pass_lexeme.ensures.value (c.in-Ok.ensures ∙ ap (lexeme_from c.args.kind) text)
 
 pub returns-in-Err-clause-gives : goal.returns-in-Err-clause-gives
 returns-in-Err-clause-gives c =
     let a = c.args.parts.now in
     let j : a.state.place + c.args.begin + c.args.len - (a.state.place + c.args.begin) ≡ c.args.len = omega arith in
-    let text = c.range.ensures.value ∙ ap (λ k. take k (drop (a.state.place + c.args.begin) a.text.now)) j in
+    let text = c.range-text.ensures.value ∙ ap (λ k. take k (drop (a.state.place + c.args.begin) a.text.now)) j in
     (over_left a.margin a.pending c.requires.ready.none, item_lacks a c.args.turn c.args.begin c.args.kind c.args.len c.args.next c.args.fresh c.requires.ready c.requires.comes c.requires.is (ap (λ w. takes_memory (lexeme_from c.args.kind w)) (sym text) ∙ c.in-Err.ensures))

@@ -6,10 +6,10 @@ use Rattle.starlark_lexer.proofs.scan.gap.Goals as goal
 
 pub returns-then-len-eq0-clause-value : goal.returns-then-len-eq0-clause-value
 returns-then-len-eq0-clause-value c =
-    let is : c.pass-len.result ≡ pass c.args.joined (drop c.loop-joined.end c.args.bytes.now) = c.pass-len.ensures.value ∙ ap (pass c.args.joined) (take_rest c.args.bytes.now c.loop-joined.end) in
-    omega (arith, gap_stop c.args.joined (drop c.loop-joined.end c.args.bytes.now) (sym is ∙ c.if-len-eq0.true))
+    let is : c.pass-len.result ≡ pass c.args.joined (drop c.loop-reads.end c.args.bytes.now) = c.pass-len.ensures.value ∙ ap (pass c.args.joined) (take_rest c.args.bytes.now c.loop-reads.end) in
+    omega (arith, gap_stop c.args.joined (drop c.loop-reads.end c.args.bytes.now) (sym is ∙ c.if-len-eq0.true))
 
-pub loop-joined-preserved : goal.loop-joined-preserved
-loop-joined-preserved c =
-    let is : c.pass-len.result ≡ pass c.args.joined (drop c.loop-joined.end c.args.bytes.now) = c.pass-len.ensures.value ∙ ap (pass c.args.joined) (take_rest c.args.bytes.now c.loop-joined.end) in
-    (gap_on c.args.joined c.args.bytes.now c.loop-joined.end c.pass-len.result is (omega arith) ∙ c.loop-joined.invariant.0, (omega arith, (omega (arith, c.pass-len.ensures.on (omega arith)), record { up = omega arith; least = omega arith })))
+pub loop-reads-preserved : goal.loop-reads-preserved
+loop-reads-preserved c =
+    let is : c.pass-len.result ≡ pass c.args.joined (drop c.loop-reads.end c.args.bytes.now) = c.pass-len.ensures.value ∙ ap (pass c.args.joined) (take_rest c.args.bytes.now c.loop-reads.end) in
+    (gap_on c.args.joined c.args.bytes.now c.loop-reads.end c.pass-len.result is (omega arith) ∙ c.loop-reads.invariant.0, (omega arith, (omega (arith, c.pass-len.ensures.on (omega arith)), omega arith)))
