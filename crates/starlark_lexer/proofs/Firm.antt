@@ -17,7 +17,8 @@ use Rattle.starlark_lexer.specs.Order.{IsName, AreFirm}
 use Rattle.starlark_lexer.proofs.Openings.{begins_opening, none_first}
 use Rattle.starlark_lexer.proofs.Tables.{begins_operator, no_operator}
 
-high_rule : (b : ℕ) (ys : List ℕ) → ltb b 128 ≡ false → meaning (b ∷ ys) ≡ when (is_other (b ∷ ys)) (refused InvalidInput)
+-- another byte begins nothing that has a meaning
+pub high_rule : (b : ℕ) (ys : List ℕ) → ltb b 128 ≡ false → meaning (b ∷ ys) ≡ when (is_other (b ∷ ys)) (refused InvalidInput)
 unfolding meaning
 high_rule b ys h =
     let w : begins_word b ≡ false = grind (arith, nat_tests) in

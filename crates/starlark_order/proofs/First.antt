@@ -1,7 +1,6 @@
 -- Each item that a step gives begins with an ASCII byte, but for layout and what stands in an f-string.
-use Rattle.std.proofs.Common.{◌≡◌, ◌<◌, ℕ, ◌+◌, Bool, true, false, List, [], ◌∷◌, ◌++◌, length, take, drop, get_or, refl, ap, sym, ◌∙◌, arith, zero, suc, inl, inr, eqb, ltb, true≢false}
-use Rattle.std.specs.Prelude.{Option, Some, None}
-use Rattle.std.specs.Char.{is_ascii_digit}
+use Rattle.std.proofs.Common.{◌≡◌, ◌<◌, ℕ, ◌+◌, Bool, true, false, List, [], ◌∷◌, ◌++◌, length, take, drop, get_or, refl, ap, sym, ◌∙◌, arith, zero, suc, inl, inr, ltb, true≢false}
+use Rattle.std.specs.Prelude.{Option, Some}
 use Rattle.std.proofs.lemmas.Bool.{cases_Bool}
 use Rattle.std.proofs.lemmas.Bool.Decides.{nat_tests}
 use Rattle.std.proofs.lemmas.List.{drop-drop, get_or-drop}
@@ -9,29 +8,14 @@ use Rattle.starlark_lexer.specs.declared.token.LexemeError.{LexemeError}
 use Rattle.starlark_lexer.specs.declared.token.LexemeError.TheVariants.{InvalidInput}
 use Rattle.starlark_lexer.specs.declared.literal.Form.{Form}
 use Rattle.starlark_lexer.specs.Items.{Lexeme, Item, Lexed, newline, comment, fstring_start, fstring_text, fstring_expr_start, fstring_expr_end, fstring_bang, fstring_end, dedents}
-use Rattle.starlark_lexer.specs.Literals.{opening_of, quotes, value}
-use Rattle.starlark_lexer.specs.Classes.{Meaning, token, refused, opens, when, meaning, begins_word, operator_of, is_other, leading, line_len, line_end, escaped, IsLexeme}
+use Rattle.starlark_lexer.specs.Literals.{quotes, value}
+use Rattle.starlark_lexer.specs.Classes.{Meaning, token, refused, opens, when, is_other, leading, line_len, line_end, escaped, IsLexeme}
 use Rattle.starlark_lexer.specs.Lex.{Past, Mode, Move, on, over, Step, Lex, goes_on, is_over, start, gives, turns, literal_lexeme}
 use Rattle.starlark_lexer.specs.Lex as rules
-use Rattle.starlark_lexer.proofs.Openings.{begins_opening, none_first}
-use Rattle.starlark_lexer.proofs.Tables.{begins_operator, no_operator}
+use Rattle.starlark_lexer.proofs.Firm.{high_rule}
 use Rattle.starlark_order.specs.Ordered.{BeginPlainly, is_inner}
 
 -- ---- a lexeme
-
--- another byte begins nothing that has a meaning
-high_rule : (b : ℕ) (ys : List ℕ) → ltb b 128 ≡ false → meaning (b ∷ ys) ≡ when (is_other (b ∷ ys)) (refused InvalidInput)
-unfolding meaning
-high_rule b ys h =
-    let w : begins_word b ≡ false = grind (arith, nat_tests) in
-    let d : is_ascii_digit b ≡ false = grind (arith, nat_tests) in
-    let z : eqb b 48 ≡ false = grind (arith, nat_tests) in
-    let p : eqb b 46 ≡ false = grind (arith, nat_tests) in
-    let o : begins_operator b ≡ false = grind (arith, nat_tests) in
-    let n : operator_of (b ∷ ys) ≡ None = no_operator b ys o in
-    let q : begins_opening b ≡ false = grind (arith, nat_tests) in
-    let f : opening_of (b ∷ ys) ≡ None = none_first b ys q in
-    rw (w, d, z, p, f, n) refl
 
 -- a token, or what opens a literal
 data IsMeant : Meaning → Type 0 where

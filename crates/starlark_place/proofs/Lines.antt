@@ -63,7 +63,8 @@ line_within (b ∷ bs) i (suc p) =
       | inr e ↦ rw (feeds-cons b (take p bs), e) (let a = line_within bs (i + 1) p in omega arith)
     ]
 
-no_feed : (xs : List ℕ) → count_by is_feed xs ≡ 0 → last_line xs ≡ xs
+-- without a line feed all is on the last line
+pub no_feed : (xs : List ℕ) → count_by is_feed xs ≡ 0 → last_line xs ≡ xs
 no_feed [] = λ h. refl
 no_feed (b ∷ bs) =
     elim (cases_Bool (eqb b 10)) [
@@ -271,7 +272,7 @@ characters-more (b ∷ bs) (suc i) (suc j) h =
     let m = characters-more bs i j (omega arith) in
     rw (sum_by-cons (λ x. cond (not (is_continuation x)) 1 0) b (take i bs), sum_by-cons (λ x. cond (not (is_continuation x)) 1 0) b (take j bs)) (omega arith)
 
-same_feeds : (b : ℕ) (xs ys : List ℕ) → count_by is_feed (b ∷ xs) ≡ count_by is_feed (b ∷ ys) → count_by is_feed xs ≡ count_by is_feed ys
+pub same_feeds : (b : ℕ) (xs ys : List ℕ) → count_by is_feed (b ∷ xs) ≡ count_by is_feed (b ∷ ys) → count_by is_feed xs ≡ count_by is_feed ys
 same_feeds b xs ys =
     rw (feeds-cons b xs, feeds-cons b ys) (elim (cases_Bool (eqb b 10)) [ inl e ↦ rw e (λ h. omega arith) | inr e ↦ rw e (λ h. h) ])
 

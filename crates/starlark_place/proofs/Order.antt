@@ -1,11 +1,11 @@
 -- Of two places of a text, at the first of which a character begins, the earlier has the smaller line and column.
-use Rattle.std.proofs.Common.{◌≡◌, ◌<◌, ◌≤◌, ℕ, ◌+◌, false, not, cond, List, [], ◌∷◌, length, take, get_or, refl, arith, zero, suc, inl, inr, eqb}
+use Rattle.std.proofs.Common.{◌≡◌, ◌<◌, ◌≤◌, ℕ, ◌+◌, false, not, cond, List, [], ◌∷◌, length, take, get_or, arith, zero, suc, inl, inr, eqb}
 use Rattle.std.specs.List.{count_by}
 use Rattle.std.proofs.lemmas.Bool.{cases_Bool, cases_lt}
 use Rattle.std.proofs.lemmas.List.Sums.{sum_by-cons}
 use Rattle.starlark_place.specs.Place.{is_feed, is_continuation, characters, last_line, line_at}
 use Rattle.starlark_place.specs.Resolved.{resolved, IsBefore}
-use Rattle.starlark_place.proofs.Lines.{feeds-cons, feeds-more}
+use Rattle.starlark_place.proofs.Lines.{feeds-more, no_feed, same_feeds}
 
 characters-cons : (b : ℕ) (bs : List ℕ) → characters (b ∷ bs) ≡ cond (not (is_continuation b)) 1 0 + characters bs
 characters-cons b bs = sum_by-cons (λ x. cond (not (is_continuation x)) 1 0) b bs
@@ -13,19 +13,6 @@ characters-cons b bs = sum_by-cons (λ x. cond (not (is_continuation x)) 1 0) b 
 -- a character begins there
 one_more : (b : ℕ) (bs : List ℕ) → is_continuation b ≡ false → 0 < characters (b ∷ bs)
 one_more b bs h = rw (characters-cons b bs, h) (omega arith)
-
-same_feeds : (b : ℕ) (xs ys : List ℕ) → count_by is_feed (b ∷ xs) ≡ count_by is_feed (b ∷ ys) → count_by is_feed xs ≡ count_by is_feed ys
-same_feeds b xs ys =
-    rw (feeds-cons b xs, feeds-cons b ys) (elim (cases_Bool (eqb b 10)) [ inl e ↦ rw e (λ h. omega arith) | inr e ↦ rw e (λ h. h) ])
-
--- without a line feed all is on the last line
-no_feed : (xs : List ℕ) → count_by is_feed xs ≡ 0 → last_line xs ≡ xs
-no_feed [] = λ h. refl
-no_feed (b ∷ bs) =
-    elim (cases_Bool (eqb b 10)) [
-      | inl e ↦ rw (feeds-cons b bs, e) (λ h. absurd (omega arith))
-      | inr e ↦ rw (feeds-cons b bs, e) (λ h. let z : count_by is_feed bs ≡ 0 = omega arith in rw z refl)
-    ]
 
 characters-less : (text : List ℕ) (i j : ℕ) → i < j → j ≤ length text → is_continuation (get_or text i 0) ≡ false → characters (take i text) < characters (take j text)
 characters-less [] i j h k a = absurd (omega (arith, h, k))
