@@ -1,5 +1,5 @@
 -- One more statement behind those that were made again.
-use Rattle.std.proofs.Common.{ℕ, ◌+◌, ◌<◌, ◌≡◌, refl, sym, ap, ◌∙◌, List, [], ◌∷◌, ◌++◌, Option, Some, None, length, take, get_or, fold}
+use Rattle.std.proofs.Common.{ℕ, ◌+◌, ◌<◌, ◌≡◌, refl, sym, ap, ◌∙◌, List, [], ◌∷◌, ◌++◌, Option, Some, None, length, take, get_or, fold, ap₂}
 use Rattle.std.proofs.lemmas.List.Sums.{fold-append}
 use Rattle.std.specs.declared.alloc.Global.{Global}
 use Rattle.std.specs.declared.boxed.Box.{Box}
@@ -13,7 +13,7 @@ use Rattle.starlark_ast.specs.View.{boxed_type, maybe_type, stmt_at, type_view}
 use Rattle.starlark_ast.specs.declared.ast.StmtP.{StmtP}
 use Rattle.starlark_ast.specs.declared.ast.TypeExprP.{TypeExprP}
 use Rattle.starlark_ast.proofs.Blocks.{statements_more}
-use Rattle.starlark_clone.proofs.Made.{as_both, as_three}
+use Rattle.starlark_clone.proofs.Made.{as_three}
 
 -- a function of four equal things
 pub as_four : {A B C D E : Type 0} (f : A → B → C → D → E) {a b : A} {x y : B} {p q : C} {u v : D} → a ≡ b → x ≡ y → p ≡ q → u ≡ v → f a x p u ≡ f b y q v
@@ -24,7 +24,7 @@ module _ {P L I A D T : Type 0} where
   statement_again r h ys zs y xs i x more below is so_far here =
       ap (fold (λ ss q. t.add_statement ss (h q)) t.no_statements) more
       ∙ fold-append (λ ss q. t.add_statement ss (h q)) t.no_statements ys (y ∷ [])
-      ∙ as_both t.add_statement so_far here
+      ∙ ap₂ t.add_statement so_far here
       ∙ sym (ap (replaced_sequence r) (statements_more xs i x below is))
 
   -- a type is made as it is read

@@ -1,5 +1,5 @@
 -- What a shape wants does not follow: by the first token, and by the grammar.
-use Rattle.std.proofs.Common.{not, ◌≡◌, ◌≢◌, ◌≤◌, ◌∷◌, ◌∙◌, [], ℕ, List, Option, Some, None, Bool, true, false, nat_eq, cond, refl, ap, sym, arith}
+use Rattle.std.proofs.Common.{not, ◌≡◌, ◌≢◌, ◌≤◌, ◌∷◌, ◌∙◌, [], ℕ, List, Option, Some, None, Bool, true, false, nat_eq, cond, refl, ap, sym, arith, true≢false}
 use Rattle.starlark_place.specs.Place.{Extent}
 use Rattle.starlark_grammar.specs.Spans.{stretch}
 use Rattle.starlark_lexer.specs.Items.{Lexeme, identifier, fstring_end, colon, equal, Item, item}
@@ -19,9 +19,6 @@ use Rattle.starlark_grammar.proofs.Sound.{raise}
 use Rattle.starlark_grammar.proofs.Reading.{First, starts, level_first}
 use Rattle.starlark_grammar.proofs.Openings.{Named, is_name, no_name, is_named}
 
-true_false : {P : Type 0} → true ≡ false → P
-true_false h = absurd (let n : true ≡ false = h in (cc))
-
 first_test : {ts : List Item} → First 12 ts → begins_test ts ≡ true
 first_test (starts h le) = ap is_some h
 
@@ -29,9 +26,9 @@ pub lacks_grammar : (z : Shape) (xs : List Item) → lacks z xs ≡ true → Lac
 lacks_grammar after_comma [] h = tt
 lacks_grammar after_symbol [] h = tt
 lacks_grammar after_bang [] h = tt
-lacks_grammar after_comma (x ∷ xs) h = λ a b q e d. true_false (sym h ∙ ap not (first_test (level_first d)))
-lacks_grammar after_symbol (x ∷ xs) h = λ e. true_false (sym h ∙ ap (λ y. not (nat_eq (sort equal) (sort y))) e)
-lacks_grammar after_bang (x ∷ xs) h = λ n f e w. true_false (sym h ∙ ap (λ y. not (some_converts (name_of y))) e ∙ ap (λ o. not (is_some o)) w)
+lacks_grammar after_comma (x ∷ xs) h = λ a b q e d. absurd (true≢false (sym h ∙ ap not (first_test (level_first d))))
+lacks_grammar after_symbol (x ∷ xs) h = λ e. absurd (true≢false (sym h ∙ ap (λ y. not (nat_eq (sort equal) (sort y))) e))
+lacks_grammar after_bang (x ∷ xs) h = λ n f e w. absurd (true≢false (sym h ∙ ap (λ y. not (some_converts (name_of y))) e ∙ ap (λ o. not (is_some o)) w))
 
 -- a token that begins a Test
 a_name : {a : List Item} → Level 12 (item 0 some_name 0 ∷ a) a (tree.leaf (tree.name (120 ∷ [])) (stretch 0 0) (stretch 0 0)) 0

@@ -1,16 +1,14 @@
 -- The tokens that end what has begun stand in order.
-use Rattle.std.proofs.Common.{ℕ, ◌≤◌, ◌∷◌, [], List, arith}
+use Rattle.std.proofs.Common.{ℕ, ◌∷◌, [], List}
+use Rattle.std.proofs.Math.Nat.{le_refl}
 use Rattle.starlark_lexer.specs.Items.{Lexeme, Item}
 use Rattle.starlark_ast.specs.Tree.{add_statement, no_statements}
 use Rattle.starlark_grammar.specs.Frames.{Blocks, outer, inner, Ifs, at_if, at_elif, Suites, of_if, of_else, of_for, of_def, Head, head, Rows, at_block, at_suite, Line, line, Spots, first, annotation, test, source, param_type, param_default, result_type, Lists, left, right, returned, target, Frames, tail, inside, listed, spot, State, wants, has, stands, perhaps_named, wants_list, wants_next, at_line, behind_for, behind_if, wants_colon, wants_suite, wants_indent, behind_small, wants_small, behind_return, load_opens, load_module, load_named, load_symbol, load_equal, load_other, load_behind, def_name, def_opens, wants_param, behind_star, behind_stars, behind_name, behind_param, wants_result}
 use Rattle.starlark_grammar.specs.Completion.{point_end, frame_end, spelled, put, block_rest, if_rest, suite_rest, head_rest, line_rest, row_rest, small_rest, result_rest, spot_rest, list_rest, more_rest, closing, completion_at}
 use Rattle.starlark_grammar.specs.Longer.{InOrder, no_token, one_token}
 
-le : (i : ℕ) → i ≤ i
-le i = omega arith
-
 on : (i : ℕ) (x : Lexeme) {ts : List Item} → InOrder i ts → InOrder i (put i x ts)
-on i x h = one_token (le i) (le i) h
+on i x h = one_token (le_refl i) (le_refl i) h
 
 mutual
   block_order : (i : ℕ) (k : Blocks) → InOrder i (block_rest i k)

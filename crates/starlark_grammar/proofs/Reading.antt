@@ -3,7 +3,7 @@ use Rattle.std.proofs.Common.{ℕ, ◌≡◌, ◌≢◌, ◌-◌, ◌<◌, ◌�
 use Rattle.starlark_lexer.specs.Items.{Lexeme, Item, item}
 use Rattle.starlark_ast.specs.Tree as tree
 use Rattle.starlark_grammar.specs.Events.{Event}
-use Rattle.starlark_grammar.specs.Tables.{Beginning, beginning, begins_at, Suffix, suffix, below, associates, left_of, grade}
+use Rattle.starlark_grammar.specs.Tables.{Beginning, beginning, begins_at, Suffix, suffix, below, associates, grade}
 use Rattle.starlark_grammar.specs.Expressions as g
 use Rattle.starlark_grammar.specs.Marks.{Mark, mark, marked}
 use Rattle.starlark_grammar.specs.Points.{Point, Outcome, turn, opens}
@@ -11,7 +11,7 @@ use Rattle.starlark_grammar.specs.Frames.{Frames, tail, State, wants, has, stand
 use Rattle.starlark_grammar.specs.Machine.{go, goes, enter, goes_on, begun, begin, begin_with, feed, opened, else_state, perhaps, step}
 use Rattle.starlark_grammar.specs.Runs.{operates, ends, met_at, met, Trace, Stuck, Note, bottom, marks_of, note, finish, run}
 use Rattle.starlark_grammar.proofs.Steps.{arrive, runs, same, first_grade, past}
-use Rattle.starlark_grammar.proofs.Sound.{bottom_note}
+use Rattle.starlark_grammar.proofs.Sound.{bottom_note, left_le}
 
 pub marks_note : (ts : List Item) (m : Option Event) (v : Trace) → marks_of (note ts m v) ≡ marked (length ts) m (marks_of v)
 marks_note ts None v = refl
@@ -53,13 +53,6 @@ pub data First (n : ℕ) : List Item → Type 0 where
 pub higher : {n m : ℕ} {a : List Item} → n ≤ m → First n a → First m a
 higher le (starts h l) = starts h (omega arith)
 
-pub left_low : (n : ℕ) → left_of n ≤ n
-left_low n = go (associates n)
-  where
-    go : (b : Bool) → cond b n (n - 1) ≤ n
-    go true = omega arith
-    go false = omega arith
-
 pub level_first : {n e : ℕ} {a b : List Item} {q : tree.Expr} → g.Level n a b q e → First n a
 level_first (g.by_itself h) = starts h (omega arith)
 level_first (g.in_brackets h d) = starts h (omega arith)
@@ -69,7 +62,7 @@ level_first (g.attribute h d) = level_first d
 level_first (g.subscript h d s) = level_first d
 level_first (g.apply h d ms) = level_first d
 level_first (g.sign h d) = starts h (omega arith)
-level_first (g.operate {o} h d l) = higher (left_low (suc (below o))) (level_first d)
+level_first (g.operate {o} h d l) = higher (left_le (suc (below o))) (level_first d)
 level_first (g.not_in h d l) = higher (omega arith) (level_first d)
 level_first (g.ternary h d l t) = higher (omega arith) (level_first d)
 level_first (g.abstraction h ms d) = starts h (omega arith)

@@ -1,5 +1,6 @@
 -- What the machine accepts, marks aside, is derived by the grammar.
 use Rattle.std.proofs.Common.{ℕ, ◌≡◌, ◌+◌, ◌-◌, ◌≤◌, ◌∷◌, ◌∙◌, [], zero, suc, List, Option, Some, None, Bool, true, false, nat_eq, cond, refl, ap, sym, subst, arith}
+use Rattle.std.proofs.Math.Nat.{le_refl}
 use Rattle.starlark_grammar.specs.Spans.{stretch}
 use Rattle.starlark_lexer.specs.Items.{Lexeme, newline, indent, dedent, identifier, string, keyword_break, keyword_continue, keyword_def, keyword_elif, keyword_else, keyword_for, keyword_if, keyword_load, keyword_pass, keyword_return, comma, semicolon, colon, equal, star, star_star, slash, minus_greater, opening_round, closing_round, Item, item}
 use Rattle.starlark_ast.specs.Tree as tree
@@ -63,12 +64,9 @@ goes_hold w le (l_reach p) = holds (h_stands w le p)
 goes_hold w le (l_want b) = holds (h_wants (w_inside w le b))
 goes_hold {n} w le (l_made d) = holds (h_has w (raise n le d))
 
-self_le : (n : ℕ) → n ≤ n
-self_le n = omega arith
-
 -- the frames behind an operator of that level
 joined_holds : {T a xs : List Item} {k : Frames} {q : ℕ} {f : Frame} {n : ℕ} (m : ℕ) (b : Bool) → associates m ≡ b → Waits T k q a → m ≤ q → Began f m a n xs → Holds T (wants n (inside f (cond b (tail m k) k))) xs
-joined_holds {k} m true e w le b = h_wants (w_inside (w_tail w le (let h : left_of m ≡ m = ap (λ z. cond z m (m - 1)) e in omega arith)) (self_le m) b)
+joined_holds {k} m true e w le b = h_wants (w_inside (w_tail w le (let h : left_of m ≡ m = ap (λ z. cond z m (m - 1)) e in omega arith)) (le_refl m) b)
 joined_holds m false e w le b = h_wants (w_inside w le b)
 
 enter_holds : {T a xs : List Item} {k : Frames} {q d i j : ℕ} {l : tree.Expr} {x : Lexeme} (s : Suffix) → suffix x ≡ Some s → grade s ≤ q → Waits T k q a → g.Level (left_of (grade s)) a (item i x j ∷ xs) l d → Holds T (enter s l k) xs
@@ -109,7 +107,7 @@ begun_holds lambda h w le = h_stands w le (r_wanted (in_lambda h) no_members)
 
 pub begin_holds : {T xs : List Item} {k : Frames} {q i j : ℕ} {x : Lexeme} (n : ℕ) (b : Beginning) → beginning x ≡ Some b → Waits T k q (item i x j ∷ xs) → n ≤ q → Held T xs (begin n b i j k)
 begin_holds {T} {xs} {k} {i} {j} zero b h w le = by_cases (Held T xs) (nat_eq (begins_at b) 0) (Some (begun b i j k)) None (λ e. let z : begins_at b ≡ 0 = grind arith in holds (begun_holds b h w (omega arith))) (λ e. holds_none)
-begin_holds {T} {xs} {k} {i} {j} (suc n) b h w le = by_cases (Held T xs) (nat_eq (begins_at b) (suc n)) (Some (begun b i j k)) (begin n b i j (tail (suc n) k)) (λ e. let z : begins_at b ≡ suc n = grind arith in holds (begun_holds b h w (omega arith))) (λ e. begin_holds n b h (w_tail w le (below_left n)) (self_le n))
+begin_holds {T} {xs} {k} {i} {j} (suc n) b h w le = by_cases (Held T xs) (nat_eq (begins_at b) (suc n)) (Some (begun b i j k)) (begin n b i j (tail (suc n) k)) (λ e. let z : begins_at b ≡ suc n = grind arith in holds (begun_holds b h w (omega arith))) (λ e. begin_holds n b h (w_tail w le (below_left n)) (le_refl n))
 
 pub begin_with_holds : {T xs : List Item} {k : Frames} {q i j : ℕ} {x : Lexeme} (n : ℕ) (o : Option Beginning) → beginning x ≡ o → Waits T k q (item i x j ∷ xs) → n ≤ q → Held T xs (begin_with o n i j k)
 begin_with_holds n None h w le = holds_none
@@ -117,7 +115,7 @@ begin_with_holds n (Some b) h w le = begin_holds n b h w le
 
 opened_holds : {T a xs : List Item} {k : Frames} {m q i j : ℕ} {x : Lexeme} {o : Option (ℕ × Frame)} → Waits T k q a → m ≤ q → Opens m a (item i x j ∷ xs) o → Held T xs (opened o x i j k)
 opened_holds w le o_none = holds_none
-opened_holds {x} w le (o_some {n} b) = begin_with_holds n (beginning x) refl (w_inside w le b) (self_le n)
+opened_holds {x} w le (o_some {n} b) = begin_with_holds n (beginning x) refl (w_inside w le b) (le_refl n)
 
 or_else_holds : {T xs : List Item} {a b : Option State} → Held T xs a → Held T xs b → Held T xs (else_state a b)
 or_else_holds holds_none h = h
@@ -140,7 +138,7 @@ begin_small_holds keyword_break w = holds (h_small w breaks_off)
 begin_small_holds keyword_continue w = holds (h_small w continues)
 begin_small_holds keyword_pass w = holds (h_small w passes)
 begin_small_holds keyword_load w = holds (h_load_opens w)
-begin_small_holds x w = begin_with_holds 12 (beginning x) refl (w_spot (w_small w)) (self_le 12)
+begin_small_holds x w = begin_with_holds 12 (beginning x) refl (w_spot (w_small w)) (le_refl 12)
 
 begin_line_holds : {T : List Item} {k : Blocks} {e i j : ℕ} {xs : List Item} (x : Lexeme) → WaitsLine T k (item i x j ∷ xs) e → Held T xs (begin_line k e x i j)
 begin_line_holds newline (w_outer d) = holds (h_line (w_outer (blank d)))
@@ -154,15 +152,15 @@ begin_line_holds dedent (w_inner {ss = add_statement ss s} w l d) = holds (close
 begin_line_holds x w = begin_small_holds x (w_first (w_block w))
 
 pub move_holds : {T : List Item} {u : State} {i j : ℕ} {xs : List Item} (x : Lexeme) → Holds T u (item i x j ∷ xs) → Held T xs (move u x i j)
-move_holds x (h_wants {n} w) = begin_with_holds n (beginning x) refl w (self_le n)
+move_holds x (h_wants {n} w) = begin_with_holds n (beginning x) refl w (le_refl n)
 move_holds x (h_has w d) = feed_holds x w d
 move_holds x (h_stands w le p) = or_else_holds (goes_hold w le (turn_leads x p)) (or_else_holds (perhaps_holds x w le p) (opened_holds w le (opens_hold p)))
 move_holds {T} {i} {j} {xs} x (h_named {i = u} {j = v} {f} {k} {n} {q} {ms} w le p d e) =
     by_cases (Held T xs) (nat_eq (sort equal) (sort x)) (Some (wants 12 (inside (member (behind q) ms f u (a_named n (stretch u v))) k))) (feed (tails 13 0 (inside (member (behind q) ms f u an_argument) k)) (tree.leaf (tree.name n) (stretch u v) (stretch u v)) v x i j)
     (λ h. holds (h_wants (w_inside w le (began (λ z s y o. f_goes (r_member p (one_more (as_second_given (same_sort equal x (refl, refl) h) d) (g.keyword o)) e))))))
     (λ h. feed_holds x (tails_wait (w_inside w le (began (λ z s y o. f_goes (r_member p (one_more d (g.plain o)) e))))) (g.by_itself refl))
-move_holds x (h_list {k} w) = begin_with_holds (level_of (kind_listed k)) (beginning x) refl (w_listed (w_list w no_members)) (self_le (level_of (kind_listed k)))
-move_holds x (h_next {k} w) = begin_with_holds (level_of (kind_listed k)) (beginning x) refl (w_listed w) (self_le (level_of (kind_listed k)))
+move_holds x (h_list {k} w) = begin_with_holds (level_of (kind_listed k)) (beginning x) refl (w_listed (w_list w no_members)) (le_refl (level_of (kind_listed k)))
+move_holds x (h_next {k} w) = begin_with_holds (level_of (kind_listed k)) (beginning x) refl (w_listed w) (le_refl (level_of (kind_listed k)))
 move_holds x (h_line w) = begin_line_holds x w
 move_holds x (h_for w) = begin_line_holds x w
 move_holds keyword_else (h_if w q s) = holds (h_colon w q s)
@@ -180,7 +178,7 @@ move_holds newline (h_semicolon w ds) = holds (end_row_holds w (row_semicolon ds
 move_holds x (h_semicolon w ds) = begin_small_holds x (w_next w ds)
 move_holds semicolon (h_return w) = end_small_holds semicolon w returns
 move_holds newline (h_return w) = end_small_holds newline w returns
-move_holds x (h_return w) = begin_with_holds 12 (beginning x) refl (w_listed (w_list (w_return w) no_members)) (self_le 12)
+move_holds x (h_return w) = begin_with_holds 12 (beginning x) refl (w_listed (w_list (w_return w) no_members)) (le_refl 12)
 move_holds opening_round (h_load_opens w) = holds (h_load_module w)
 move_holds _ (h_load_opens w) = holds_none
 move_holds (string n) (h_load_module w) = holds (h_load_named w)

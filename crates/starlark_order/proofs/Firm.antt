@@ -1,5 +1,5 @@
 -- Each item that a step gives has bytes, but for layout.
-use Rattle.std.proofs.Common.{ℕ, ◌≡◌, ◌<◌, ◌+◌, true, false, List, [], ◌∷◌, ◌++◌, length, take, true≢false, arith, zero, suc}
+use Rattle.std.proofs.Common.{ℕ, ◌<◌, ◌+◌, true, false, List, [], ◌∷◌, ◌++◌, length, take, true≢false, arith, zero, suc}
 use Rattle.starlark_lexer.specs.Items.{Lexeme, Item, item, Lexed, dedents, fstring_start, fstring_text, fstring_end}
 use Rattle.starlark_lexer.specs.Literals.{quotes, value}
 use Rattle.starlark_lexer.specs.Lex.{Past, Move, Step, Lex, on, over, start, goes_on, is_over}
@@ -16,12 +16,9 @@ both : (xs ys : List Item) → HaveBytes xs → HaveBytes ys → HaveBytes (xs +
 both [] ys h k = k
 both (x ∷ xs) ys h k = (h.0, both xs ys h.1 k)
 
-layout : {P : Type 0} → true ≡ false → P
-layout h = absurd (true≢false h)
-
 all_dedents : (i n : ℕ) → HaveBytes (dedents i n)
 all_dedents i zero = tt
-all_dedents i (suc n) = (λ h. layout h, all_dedents i n)
+all_dedents i (suc n) = (λ h. absurd (true≢false h), all_dedents i n)
 
 one : (p s n : ℕ) (x : Lexeme) → 0 < n → HaveBytes (item (p + s) x (p + s + n) ∷ [])
 one p s n x h = (λ c. omega (arith, h), tt)
@@ -30,21 +27,21 @@ one_here : (p n : ℕ) (x : Lexeme) → 0 < n → HaveBytes (item p x (p + n) �
 one_here p n x h = (λ c. omega (arith, h), tt)
 
 firm_step : {p : Past} {rest : List ℕ} {m : Move} → Step p rest m → Given m
-firm_step (rules.blank_line p rest more f e) = (λ h. layout h, tt)
+firm_step (rules.blank_line p rest more f e) = (λ h. absurd (true≢false h), tt)
 firm_step (rules.remark_line p rest more f e) = (λ h. omega arith, tt)
-firm_step (rules.last_line p rest closed f e c) = (λ h. layout h, both (dedents (p.place + length rest) (length closed)) [] (all_dedents (p.place + length rest) (length closed)) tt)
+firm_step (rules.last_line p rest closed f e c) = (λ h. absurd (true≢false h), both (dedents (p.place + length rest) (length closed)) [] (all_dedents (p.place + length rest) (length closed)) tt)
 firm_step (rules.tabbed p rest m t) = tt
-firm_step (rules.deepens p rest m t d) = (λ h. layout h, tt)
+firm_step (rules.deepens p rest m t d) = (λ h. absurd (true≢false h), tt)
 firm_step (rules.fits p rest closed m t o c) = all_dedents p.place (length closed)
 firm_step (rules.misfits p rest m t d o) = tt
 firm_step (rules.passes p b rest f o c) = tt
 firm_step (rules.escapes p rest f o c) = tt
 firm_step (rules.joins p rest f d) = tt
-firm_step (rules.ends_line p rest f c d) = (λ h. layout h, tt)
+firm_step (rules.ends_line p rest f c d) = (λ h. absurd (true≢false h), tt)
 firm_step (rules.remark p rest f c) = (λ h. omega arith, tt)
 firm_step (rules.lexeme p rest n x f d) = one p.place 0 n x d.nonempty
 firm_step (rules.faults p rest n e f d) = tt
-firm_step (rules.ends_text p closed f o c) = (λ h. layout h, both (dedents p.place (length closed)) [] (all_dedents p.place (length closed)) tt)
+firm_step (rules.ends_text p closed f o c) = (λ h. absurd (true≢false h), both (dedents p.place (length closed)) [] (all_dedents p.place (length closed)) tt)
 firm_step (rules.literal p rest n g k f d s e) = (λ h. omega (arith, d.nonempty), tt)
 firm_step (rules.unclosed p rest n g k f d s e) = tt
 firm_step (rules.misspelt p rest n g k m f d s e) = tt

@@ -44,12 +44,9 @@ append : (text : List ℕ) (xs ys : List Item) → BeginPlainly text xs → Begi
 append text [] ys h k = k
 append text (x ∷ xs) ys h k = (h.0, append text xs ys h.1 k)
 
-inner : {P : Type 0} → true ≡ false → P
-inner h = absurd (true≢false h)
-
 all_dedents : (text : List ℕ) (i n : ℕ) → BeginPlainly text (dedents i n)
 all_dedents text i zero = tt
-all_dedents text i (suc n) = (λ h. inner h, all_dedents text i n)
+all_dedents text i (suc n) = (λ h. absurd (true≢false h), all_dedents text i n)
 
 -- what a step gives, and that the rest stands behind it
 abbrev Firsts : List ℕ → Move → Type 0
@@ -79,34 +76,34 @@ remark_byte n rest more e =
     omega (arith, f)
 
 firsts : (text : List ℕ) {p : Past} {rest : List ℕ} {m : Move} → Step p rest m → drop p.place text ≡ rest → Firsts text m
-firsts text (rules.blank_line p rest more f d) e = gives_it text p rest e (leading rest) newline 1 (leading rest + 1) true (λ h. inner h)
+firsts text (rules.blank_line p rest more f d) e = gives_it text p rest e (leading rest) newline 1 (leading rest + 1) true (λ h. absurd (true≢false h))
 firsts text (rules.remark_line p rest more f d) e =
     gives_it text p rest e (leading rest) (comment (take (line_len more) more)) (1 + line_len more) (leading rest + (1 + line_len more) + line_end (drop (line_len more) more)) true (λ h. remark_byte (leading rest) rest more d)
-firsts text (rules.last_line p rest closed f d c) e = (λ h. inner h, append text (dedents (p.place + length rest) (length closed)) [] (all_dedents text (p.place + length rest) (length closed)) tt)
+firsts text (rules.last_line p rest closed f d c) e = (λ h. absurd (true≢false h), append text (dedents (p.place + length rest) (length closed)) [] (all_dedents text (p.place + length rest) (length closed)) tt)
 firsts text (rules.tabbed p rest m t) e = tt
-firsts text (rules.deepens p rest m t d) e = ((λ h. inner h, tt), behind text p rest e (leading rest))
+firsts text (rules.deepens p rest m t d) e = ((λ h. absurd (true≢false h), tt), behind text p rest e (leading rest))
 firsts text (rules.fits p rest closed m t o c) e = (all_dedents text p.place (length closed), behind text p rest e (leading rest))
 firsts text (rules.misfits p rest m t d o) e = tt
 firsts text (rules.passes p b rest f o c) e = (tt, behind text p (b ∷ rest) e 1)
 firsts text (rules.escapes p rest f o c) e = (tt, behind text p rest e (escaped rest))
 firsts text (rules.joins p rest f d) e = (tt, behind text p (10 ∷ rest) e 1)
-firsts text (rules.ends_line p rest f m d) e = gives_it text p (10 ∷ rest) e 0 newline 1 1 true (λ h. inner h)
+firsts text (rules.ends_line p rest f m d) e = gives_it text p (10 ∷ rest) e 0 newline 1 1 true (λ h. absurd (true≢false h))
 firsts text (rules.remark p rest f o) e = gives_it text p (35 ∷ rest) e 0 (comment (take (line_len rest) rest)) (1 + line_len rest) (1 + line_len rest) false (λ h. omega arith)
 firsts text (rules.lexeme p rest n x f d) e = gives_it text p rest e 0 x n n false (λ h. first_ascii rest n (token x) a_token d)
 firsts text (rules.faults p rest n x f d) e = tt
-firsts text (rules.ends_text p closed f o c) e = (λ h. inner h, append text (dedents p.place (length closed)) [] (all_dedents text p.place (length closed)) tt)
+firsts text (rules.ends_text p closed f o c) e = (λ h. absurd (true≢false h), append text (dedents p.place (length closed)) [] (all_dedents text p.place (length closed)) tt)
 firsts text (rules.literal p rest n g k f d s b) e =
     gives_it text p rest e 0 (literal_lexeme g.sort (value g (take k (drop n rest)))) (n + k + quotes g.quote) (n + k + quotes g.quote) false (λ h. first_ascii rest n (opens g) a_literal d)
 firsts text (rules.unclosed p rest n g k f d s b) e = tt
 firsts text (rules.misspelt p rest n g k m f d s b) e = tt
 firsts text (rules.enters p rest n g f d s) e = turns_it text p rest e (fstring_start g.quote) n (rules.inside p.place g) (p.mode ∷ p.outer) (λ h. first_ascii rest n (opens g) a_literal d)
-firsts text (rules.texts p b g rest k f m some ends) e = gives_it text p rest e 0 (fstring_text (value g (take k rest))) k k false (λ h. inner h)
-firsts text (rules.leaves p b g rest f m ends) e = turns_it text p rest e fstring_end (quotes g.quote) (rules.below p.outer) (drop 1 p.outer) (λ h. inner h)
-firsts text (rules.opens_field p b g rest f m ends) e = turns_it text p rest e fstring_expr_start 1 (rules.field b g []) p.outer (λ h. inner h)
+firsts text (rules.texts p b g rest k f m some ends) e = gives_it text p rest e 0 (fstring_text (value g (take k rest))) k k false (λ h. absurd (true≢false h))
+firsts text (rules.leaves p b g rest f m ends) e = turns_it text p rest e fstring_end (quotes g.quote) (rules.below p.outer) (drop 1 p.outer) (λ h. absurd (true≢false h))
+firsts text (rules.opens_field p b g rest f m ends) e = turns_it text p rest e fstring_expr_start 1 (rules.field b g []) p.outer (λ h. absurd (true≢false h))
 firsts text (rules.unfinished p b g rest k f m ends) e = tt
 firsts text (rules.misspells p b g rest k n f m ends) e = tt
-firsts text (rules.shuts p b g bs rest f m d) e = turns_it text p (125 ∷ rest) e fstring_expr_end 1 (rules.inside b g) p.outer (λ h. inner h)
-firsts text (rules.bangs p b g bs rest f m d c) e = gives_it text p (33 ∷ rest) e 0 fstring_bang 1 1 false (λ h. inner h)
+firsts text (rules.shuts p b g bs rest f m d) e = turns_it text p (125 ∷ rest) e fstring_expr_end 1 (rules.inside b g) p.outer (λ h. absurd (true≢false h))
+firsts text (rules.bangs p b g bs rest f m d c) e = gives_it text p (33 ∷ rest) e 0 fstring_bang 1 1 false (λ h. absurd (true≢false h))
 
 all_firsts : (text : List ℕ) {p : Past} {rest : List ℕ} {l : Lexed} → Lex p rest l → drop p.place text ≡ rest → BeginPlainly text l.items
 all_firsts text (goes_on p rest xs q more l step d) e = let s = firsts text step e in append text xs l.items s.0 (all_firsts text d s.1)

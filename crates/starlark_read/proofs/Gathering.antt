@@ -205,9 +205,6 @@ pub took_any : (ts us : Left) (o : Option (Token × Extent)) → ts.items ≢ []
 took_any ts us None n h = absurd (n h.0)
 took_any ts us (Some z) n h = (lexeme_of z.0, as_read h)
 
-pub both_same : {A B C : Type 0} (f : A → B → C) {a b : A} {c d : B} → a ≡ b → c ≡ d → f a c ≡ f b d
-both_same f {b = b} {c = c} h w = ap (λ z. f z c) h ∙ ap (f b) w
-
 -- members by another name, and from another beginning
 pub wanted_from : {d : Dialect} {s : State} {ts us : Left} {w : Place} {ms : tree.Members} {t : Bool} {e f : ℕ} {k : Frames} (g : ℕ) → Goes d s ts (stands (member_wanted w ms t e f) k) us → g ≡ f → Goes d s ts (stands (member_wanted w ms t e g) k) us
 wanted_from {w = w} {ms = ms} {t = t} {e = e} {k = k} g p h = state_is p (ap (λ z. stands (member_wanted w ms t e z) k) (sym h))

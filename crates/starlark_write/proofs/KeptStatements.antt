@@ -1,5 +1,5 @@
 -- What stays of statements: the places that are not written, and how many statements there are.
-use Rattle.std.proofs.Common.{◌≡◌, refl, sym, ap, ◌∙◌, subst, List, [], ◌∷◌, ◌++◌, flat_map, append-nil, length, ℕ, suc, ◌+◌, Option, Some, None}
+use Rattle.std.proofs.Common.{◌≡◌, refl, sym, ap, ◌∙◌, subst, List, [], ◌∷◌, ◌++◌, flat_map, append-nil, length, ℕ, suc, ◌+◌, Option, Some, None, ap₂}
 use Rattle.std.proofs.lemmas.List.Folds.{fold-map}
 use Rattle.std.specs.List.{sum_by}
 use Rattle.std.specs.declared.alloc.Global.{Global}
@@ -20,7 +20,6 @@ use Rattle.starlark_write.specs.Beside as parts
 use Rattle.starlark_write.specs.Beside.{AtPlace, KeepsMaybeType, SameBox}
 use Rattle.starlark_write.specs.BesideStatements as beside
 use Rattle.starlark_write.specs.BesideStatements.{KeepsDefHead, KeepsForHead, KeepsHead, KeepsOuter, KeepsOuters, KeepsStmt, KeepsTypeHere, def_body, for_body}
-use Rattle.starlark_write.proofs.Lent.{both}
 use Rattle.starlark_write.proofs.Loops as loops
 use Rattle.starlark_write.proofs.Loops.{Both}
 
@@ -51,8 +50,8 @@ module _ {P L I A D T : Type 0} where
   exprs_kept (beside.head_statements xs ys b k) = ap exprs_layer (stmt.outs-Statements ys) ∙ sym (ap exprs_layer (stmt.outs-Statements xs))
   exprs_kept (beside.head_condition c s t b) = ap exprs_layer (stmt.outs-If c t) ∙ sym (ap exprs_layer (stmt.outs-If c s))
   exprs_kept (beside.head_choice c s t b) = ap exprs_layer (stmt.outs-IfElse c t) ∙ sym (ap exprs_layer (stmt.outs-IfElse c s))
-  exprs_kept (beside.head_repeat x y k) = ap exprs_layer (stmt.outs-For y) ∙ both (λ p q. target_places p.node ++ q ∷ []) k.var k.over ∙ sym (ap exprs_layer (stmt.outs-For x))
-  exprs_kept (beside.head_define x y k) = ap exprs_layer (stmt.outs-Def y) ∙ both (λ p q. flat_map (λ r. parameter_places r.node) p.items ++ maybe_type_place q) k.params k.return_type ∙ sym (ap exprs_layer (stmt.outs-Def x))
+  exprs_kept (beside.head_repeat x y k) = ap exprs_layer (stmt.outs-For y) ∙ ap₂ (λ p q. target_places p.node ++ q ∷ []) k.var k.over ∙ sym (ap exprs_layer (stmt.outs-For x))
+  exprs_kept (beside.head_define x y k) = ap exprs_layer (stmt.outs-Def y) ∙ ap₂ (λ p q. flat_map (λ r. parameter_places r.node) p.items ++ maybe_type_place q) k.params k.return_type ∙ sym (ap exprs_layer (stmt.outs-Def x))
 
   layer_none : (t : StmtP-F P L I A D T (StmtP P L I A D T) (DefP P L I A D T) (ForP P L I A D T)) → HoldsNone (roll-StmtP P L I A D T t) → stmts_layer t ≡ []
   layer_none (layer.Statements xs) h = absurd (h.statements xs (stmt.rolls-Statements xs))

@@ -1,5 +1,5 @@
 -- What stays where types are written: of lists, arguments and parameters.
-use Rattle.std.proofs.Common.{◌≡◌, refl, sym, ap, ◌∙◌, ℕ, ◌+◌, ◌<◌, ◌≤◌, List, ◌++◌, flat_map, length, drop, get_or, Option, Some, None, arith}
+use Rattle.std.proofs.Common.{◌≡◌, refl, sym, ap, ◌∙◌, ℕ, ◌+◌, ◌<◌, ◌≤◌, List, ◌++◌, flat_map, length, drop, get_or, Option, Some, None, arith, ap₂}
 use Rattle.std.proofs.lemmas.List.Sums.{get_or-le-sum_by, sum_by-cons}
 use Rattle.std.specs.List.{sum_by}
 use Rattle.std.specs.Vec.{SameBlock}
@@ -28,7 +28,6 @@ use Rattle.starlark_write.specs.Beside.{AtPlace, Each, KeepsArgument}
 use Rattle.starlark_write.specs.BesideTypes as kept
 use Rattle.starlark_write.specs.BesideTypes.{KeepsAll, KeepsArguments, KeepsClauseTypes, KeepsClauses, KeepsDefault, KeepsDefaults, KeepsMaybe, KeepsOwn, KeepsPairs, KeepsStmtTypes, KeepsStmtsTypes, KeepsTargetTypes, KeepsTargetsTypes, KeepsTypes}
 use Rattle.starlark_write.specs.TypePlaces.{argument_types, default_types, expr_types, own_layer, own_type}
-use Rattle.starlark_write.proofs.Lent.{both}
 use Rattle.starlark_write.proofs.Loops as loops
 use Rattle.starlark_write.proofs.Loops.{Both, head_same}
 use Rattle.starlark_write.proofs.TypeParts.{argument_types-Args, argument_types-KwArgs, argument_types-Named, argument_types-Positional, default_types-Args, default_types-KwArgs, default_types-Normal}
@@ -47,19 +46,19 @@ fewer h old xs i x below lengths front =
 
 each_flat : {X Z : Type 0} (R : X → X → Type 0) (h : X → List Z) → ((x y : X) → R x y → h x ≡ h y) → {xs ys : List X} → Each R xs ys → flat_map h xs ≡ flat_map h ys
 each_flat R h same (beside.rest xs) = refl
-each_flat R h same (beside.more k hs) = both (λ p q. p ++ q) (same _ _ k) (each_flat R h same hs)
+each_flat R h same (beside.more k hs) = ap₂ (λ p q. p ++ q) (same _ _ k) (each_flat R h same hs)
 
 each_sum : {X : Type 0} (R : X → X → Type 0) (h : X → ℕ) → ((x y : X) → R x y → h x ≡ h y) → {xs ys : List X} → Each R xs ys → sum_by h xs ≡ sum_by h ys
 each_sum R h same (beside.rest xs) = refl
 each_sum R h same (beside.more {x = x} {y = y} {xs = xs} {ys = ys} k hs) =
-    sum_by-cons h x xs ∙ both (λ p q. p + q) (same x y k) (each_sum R h same hs) ∙ sym (sum_by-cons h y ys)
+    sum_by-cons h x xs ∙ ap₂ (λ p q. p + q) (same x y k) (each_sum R h same hs) ∙ sym (sum_by-cons h y ys)
 
 module _ {P L I A D T : Type 0} where
   pub all_back : (xs ys zs : List (E P L I A D T)) → Both KeepsTypes xs ys → KeepsAll (xs ++ zs) (ys ++ zs)
   all_back xs ys zs loops.none = kept.all_rest zs
   all_back xs ys zs (loops.more k h) = kept.all_more k (all_back _ _ zs h)
 
-  -- of a pair both
+  -- of a pair ap₂
   abbrev pub KeepsPair : E P L I A D T × E P L I A D T → E P L I A D T × E P L I A D T → Type 0
   KeepsPair x y = KeepsTypes x.0 y.0 × KeepsTypes x.1 y.1
 
@@ -125,4 +124,4 @@ module _ {P L I A D T : Type 0} where
 
   pub same_own : {xs ys : List (Spanned (ParameterP P L I A D T))} → KeepsDefaults xs ys → flat_map (λ p. own_type p.node) xs ≡ flat_map (λ p. own_type p.node) ys
   same_own (kept.defaults_rest xs) = refl
-  same_own (kept.defaults_more k h) = both (λ p q. p ++ q) (default_kept _ _ k) (same_own h)
+  same_own (kept.defaults_more k h) = ap₂ (λ p q. p ++ q) (default_kept _ _ k) (same_own h)

@@ -8,9 +8,6 @@ use Rattle.starlark_ast.specs.contracts.ast.AssignTargetP as targets
 use Rattle.starlark_ast.specs.contracts.ast.ExprP as exprs
 use Rattle.starlark_ast.specs.contracts.ast.StmtP as stmts
 
-pub both : {X Y Z : Type 0} (h : X → Y → Z) {a b : X} {x y : Y} → a ≡ b → x ≡ y → h a x ≡ h b y
-both h {a} {b} {x} {y} e k = ap (λ q. h q x) e ∙ ap (λ q. h b q) k
-
 -- what holds where s is seen to be t
 pub seen : {S U : Type 0} (R : S → U → Type 0) {s t : S} {u : U} → s ≡ t → R t u → R s u
 seen R {s} {t} {u} is h = subst (λ q. R q u) (sym is) h

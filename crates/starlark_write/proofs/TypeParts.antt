@@ -1,5 +1,5 @@
 -- The types in each variant, and in what stands in it: equations of TypePlaces.
-use Rattle.std.proofs.Common.{◌≡◌, sym, ap, ◌∙◌, List, [], ◌++◌, flat_map, Option, Some, None}
+use Rattle.std.proofs.Common.{◌≡◌, sym, ap, ◌∙◌, List, [], ◌++◌, flat_map, Option, Some, None, ap₂}
 use Rattle.std.proofs.lemmas.List.Folds.{flat_map-map}
 use Rattle.std.specs.declared.alloc.Global.{Global}
 use Rattle.std.specs.declared.boxed.Box.{Box}
@@ -27,7 +27,6 @@ use Rattle.starlark_ast.specs.declared.ast.AssignTargetP.TheVariants as target
 use Rattle.starlark_ast.specs.declared.ast.ClauseP.TheVariants as clause
 use Rattle.starlark_ast.specs.declared.ast.ArgumentP.TheOpen as layer
 use Rattle.starlark_write.specs.TypePlaces.{Y, own_type, argument_step, target_step, clause_step, expr_step, parameter_step, call_args_step, fstring_step, for_clause_step, lambda_step, argument_types, target_types, clause_types, expr_types, default_types, call_args_types, fstring_types, for_clause_types, lambda_types, maybe_expr_types}
-use Rattle.starlark_write.proofs.Lent.{both}
 
 module _ {P L I A D T : Type 0} where
   pub expr_types-Tuple : (xs : Vec (E P L I A D T) Global) → expr_types (expr.Tuple xs) ≡ flat_map (λ x. expr_types x.node) xs.items
@@ -180,7 +179,7 @@ module _ {P L I A D T : Type 0} where
 
   pub lambda_types-parts : (x : LambdaP P L I A D T) → lambda_types x ≡ flat_map (λ p. own_type p.node) (out-LambdaP P L I A D T x).params.items ++ (flat_map (λ p. default_types p.node) (out-LambdaP P L I A D T x).params.items ++ expr_types (out-LambdaP P L I A D T x).body.value.node)
   lambda_types-parts x =
-      ap lambda_types (sym (roll-out-LambdaP P L I A D T x)) ∙ para-roll-LambdaP P L I A D T _ _ _ _ _ _ _ _ _ (Unit {0}) argument_step target_step clause_step expr_step parameter_step call_args_step fstring_step for_clause_step lambda_step (λ x. tt) (out-LambdaP P L I A D T x) ∙ both (λ p q. p ++ (q ++ expr_types (out-LambdaP P L I A D T x).body.value.node)) (flat_map-map _ _ (out-LambdaP P L I A D T x).params.items) (flat_map-map _ _ (out-LambdaP P L I A D T x).params.items)
+      ap lambda_types (sym (roll-out-LambdaP P L I A D T x)) ∙ para-roll-LambdaP P L I A D T _ _ _ _ _ _ _ _ _ (Unit {0}) argument_step target_step clause_step expr_step parameter_step call_args_step fstring_step for_clause_step lambda_step (λ x. tt) (out-LambdaP P L I A D T x) ∙ ap₂ (λ p q. p ++ (q ++ expr_types (out-LambdaP P L I A D T x).body.value.node)) (flat_map-map _ _ (out-LambdaP P L I A D T x).params.items) (flat_map-map _ _ (out-LambdaP P L I A D T x).params.items)
 
 -- without a part that names the payloads
 module _ (P L I A D T : Type 0) where

@@ -1,4 +1,4 @@
-use Rattle.std.proofs.Common.{◌+◌, ◌-◌, ◌≡◌, ◌∙◌, suc, refl, ap, sym, rules, arith, length, inl, inr, cond, true, string_bytes, [], ◌∷◌, ◌++◌, Some}
+use Rattle.std.proofs.Common.{◌+◌, ◌-◌, ◌≡◌, ◌∙◌, suc, refl, ap, sym, rules, arith, length, inl, inr, cond, true, string_bytes, [], ◌∷◌, ◌++◌, Some, ap₂}
 use Rattle.starlark_lexer.specs.Items.{keyword_lambda, keyword_if, dot, opening_round, opening_square, comma, closing_round, star, star_star, equal, colon, closing_square, opening_curly, keyword_for, closing_curly, fstring_end, fstring_expr_end, slash}
 use Rattle.starlark_grammar.specs.Made.{sign_of, bound_of, items_of, pairs_of, clauses_of}
 use Rattle.starlark_grammar.specs.Nodes.{start, operated, from}
@@ -18,7 +18,7 @@ use Rattle.starlark_read.proofs.Suffixing.{at_grade, passes_tails, spanned, no_s
 use Rattle.starlark_read.proofs.Arguing.{members_are, no_argument_end, argument_opens, kwargs_begin, member_is, leaf_named}
 use Rattle.starlark_read.proofs.Subscripting.{bound_opens, ended_by, first_opens, goes_to_step, no_index_end, no_second_end, no_slice_end, no_step_end, slice_ends, step_ends}
 use Rattle.starlark_read.specs.Gathered.{quoted_ahead, gathered, text_ahead}
-use Rattle.starlark_read.proofs.Gathering.{bracket_from, passes_from, found_true, found_false, no_opening_at, still, both_same, wanted_from, item_begins, member_ends, closes_wanted, closes_read, no_round_end, before, list_span, comprehension_span, no_member_end, dict_span, wanted_as, read_as, gathers_wanted, gathers_read_as, first_kept, one_more, many_clause, key_begins, key_ends, no_colon, member_as, placed, span_from}
+use Rattle.starlark_read.proofs.Gathering.{bracket_from, passes_from, found_true, found_false, no_opening_at, still, wanted_from, item_begins, member_ends, closes_wanted, closes_read, no_round_end, before, list_span, comprehension_span, no_member_end, dict_span, wanted_as, read_as, gathers_wanted, gathers_read_as, first_kept, one_more, many_clause, key_begins, key_ends, no_colon, member_as, placed, span_from}
 use Rattle.starlark_read.proofs.Quoting.{string_from, string_ends, string_span, field_begins, field_from, pieces_as, no_piece, field_ends, bang_read, no_field_end, put, letter_from}
 use Rattle.starlark_read.proofs.Listing.{clauses_as, clauses_close, clause_more, filter_ends, no_clause, in_follows, no_in, over_ends, over_broken, right_target, list_begins, listed_from, list_comma_as, list_goes_on_with, list_broken_with, list_forgets, list_is}
 use Rattle.starlark_read.proofs.Naming.{body_as, slash_read, star_begins, stars_begin, star_from, name_begins, double_starred_read, no_kwargs, no_parameter, default_begins, name_is, named, unnamed, spans_as, defaults_as}
@@ -484,7 +484,7 @@ atoms::atom-returns-clause-reads g met c d k =
     behind_it (renamed (f.0 ∙ e.0 ∙ b.0 ∙ a.0)) (c.leaf.ensures.reads d k (no_opening_at _ _ f.0 (still (f.0 ∙ e.0 ∙ b.0 ∙ a.0) a.1) (still (f.0 ∙ e.0 ∙ b.0) b.1) (still (f.0 ∙ e.0) e.1) (ap (λ z. quoted_ahead z.items) f.0 ∙ f.1)))
 
 pub atoms::parenthesized-returns-then-branch-clause-reads : goal.atoms::parenthesized-returns-then-branch-clause-reads
-atoms::parenthesized-returns-then-branch-clause-reads g met c d k = gives (seen_as (closes_wanted round _ _ _ _ _ k _ _ _ refl (read_it _ _ closing_round _ c.if-branch.true c.in_ok-accept.ensures)) (c.tuple.ensures ∙ both_same tree.tuple (ap (items_of g.B.Make.means) c.new-none.ensures.items) c.since.ensures))
+atoms::parenthesized-returns-then-branch-clause-reads g met c d k = gives (seen_as (closes_wanted round _ _ _ _ _ k _ _ _ refl (read_it _ _ closing_round _ c.if-branch.true c.in_ok-accept.ensures)) (c.tuple.ensures ∙ ap₂ tree.tuple (ap (items_of g.B.Make.means) c.new-none.ensures.items) c.since.ensures))
 
 pub atoms::parenthesized-returns-in_err-first-clause-reads : goal.atoms::parenthesized-returns-in_err-first-clause-reads
 atoms::parenthesized-returns-in_err-first-clause-reads g met c d k =
@@ -514,7 +514,7 @@ atoms::parenthesized-returns-clause-reads g met c d k =
     gives (renamed n.0 >> item_begins round _ _ _ _ _ k _ refl (still n.0 n.1) >> (c.in_ok-first.ensures.reads d _).comes _ refl >> member_ends _ _ _ _ _ _ _ _ _ >> renamed m.0 >> closes_read round _ _ _ _ k _ _ _ refl c.in_ok-expect.ensures.read)
 
 pub atoms::list-returns-then-branch-clause-reads : goal.atoms::list-returns-then-branch-clause-reads
-atoms::list-returns-then-branch-clause-reads g met c d k = gives (seen_as (closes_wanted square _ _ _ _ _ k _ _ _ refl (read_it _ _ closing_square _ c.if-branch.true c.in_ok-accept.ensures)) (c.list.ensures ∙ both_same tree.list (ap (items_of g.B.Make.means) c.new-one.ensures.items) c.since.ensures))
+atoms::list-returns-then-branch-clause-reads g met c d k = gives (seen_as (closes_wanted square _ _ _ _ _ k _ _ _ refl (read_it _ _ closing_square _ c.if-branch.true c.in_ok-accept.ensures)) (c.list.ensures ∙ ap₂ tree.list (ap (items_of g.B.Make.means) c.new-one.ensures.items) c.since.ensures))
 
 pub atoms::list-returns-in_err-first-clause-reads : goal.atoms::list-returns-in_err-first-clause-reads
 atoms::list-returns-in_err-first-clause-reads g met c d k =
@@ -555,10 +555,10 @@ atoms::list-returns-clause-reads g met c d k =
     let n = left_it _ _ closing_square _ c.if-branch.false c.in_ok-accept.ensures in
     let m = left_it _ _ keyword_for _ c.if-branch-2.false c.in_ok-accept-2.ensures in
     let l = left_it _ _ comma _ c.if-branch-3.false c.in_ok-accept-3.ensures in
-    gives (seen_as (renamed n.0 >> item_begins square _ _ _ _ _ k _ refl (still n.0 n.1) >> (c.in_ok-first.ensures.reads d _).comes _ refl >> member_ends _ _ _ _ _ _ _ _ _ >> renamed m.0 >> renamed l.0 >> closes_read square _ _ _ _ k _ _ _ refl c.in_ok-expect.ensures.read) (c.list-2.ensures ∙ both_same tree.list (ap (items_of g.B.Make.means) (c.in_ok-push.ensures.items ∙ ap (λ z. z ++ c.in_ok-first.first ∷ []) c.new-one.ensures.items)) c.since-2.ensures))
+    gives (seen_as (renamed n.0 >> item_begins square _ _ _ _ _ k _ refl (still n.0 n.1) >> (c.in_ok-first.ensures.reads d _).comes _ refl >> member_ends _ _ _ _ _ _ _ _ _ >> renamed m.0 >> renamed l.0 >> closes_read square _ _ _ _ k _ _ _ refl c.in_ok-expect.ensures.read) (c.list-2.ensures ∙ ap₂ tree.list (ap (items_of g.B.Make.means) (c.in_ok-push.ensures.items ∙ ap (λ z. z ++ c.in_ok-first.first ∷ []) c.new-one.ensures.items)) c.since-2.ensures))
 
 pub atoms::dict-returns-then-branch-clause-reads : goal.atoms::dict-returns-then-branch-clause-reads
-atoms::dict-returns-then-branch-clause-reads g met c d k = gives (seen_as (closes_wanted curly _ _ _ _ _ k _ _ _ refl (read_it _ _ closing_curly _ c.if-branch.true c.in_ok-accept.ensures)) (c.dict.ensures ∙ both_same tree.dict (ap (pairs_of g.B.Make.means) c.new-one.ensures.items) c.since.ensures))
+atoms::dict-returns-then-branch-clause-reads g met c d k = gives (seen_as (closes_wanted curly _ _ _ _ _ k _ _ _ refl (read_it _ _ closing_curly _ c.if-branch.true c.in_ok-accept.ensures)) (c.dict.ensures ∙ ap₂ tree.dict (ap (pairs_of g.B.Make.means) c.new-one.ensures.items) c.since.ensures))
 
 pub atoms::dict-returns-in_err-first-clause-reads : goal.atoms::dict-returns-in_err-first-clause-reads
 atoms::dict-returns-in_err-first-clause-reads g met c d k =
@@ -599,7 +599,7 @@ atoms::dict-returns-clause-reads g met c d k =
     let n = left_it _ _ closing_curly _ c.if-branch.false c.in_ok-accept.ensures in
     let m = left_it _ _ keyword_for _ c.if-branch-2.false c.in_ok-accept-2.ensures in
     let l = left_it _ _ comma _ c.if-branch-3.false c.in_ok-accept-3.ensures in
-    gives (seen_as (renamed n.0 >> (c.in_ok-first.ensures.reads d _ _ _ _ _ k (still n.0 n.1)).comes _ refl >> renamed m.0 >> renamed l.0 >> closes_read curly _ _ _ _ k _ _ _ refl c.in_ok-expect.ensures.read) (c.dict-2.ensures ∙ both_same tree.dict (ap (pairs_of g.B.Make.means) (c.in_ok-push.ensures.items ∙ ap (λ z. z ++ c.in_ok-first.first ∷ []) c.new-one.ensures.items)) c.since-2.ensures))
+    gives (seen_as (renamed n.0 >> (c.in_ok-first.ensures.reads d _ _ _ _ _ k (still n.0 n.1)).comes _ refl >> renamed m.0 >> renamed l.0 >> closes_read curly _ _ _ _ k _ _ _ refl c.in_ok-expect.ensures.read) (c.dict-2.ensures ∙ ap₂ tree.dict (ap (pairs_of g.B.Make.means) (c.in_ok-push.ensures.items ∙ ap (λ z. z ++ c.in_ok-first.first ∷ []) c.new-one.ensures.items)) c.since-2.ensures))
 
 pub brackets::members_behind-loop-members-init : goal.brackets::members_behind-loop-members-init
 brackets::members_behind-loop-members-init g met c =
@@ -756,7 +756,7 @@ pub comprehension::for_clause-returns-in-Some-clause-reads : goal.comprehension:
 comprehension::for_clause-returns-in-Some-clause-reads g met c d p b m cs k = halts (answers ((c.in_ok-targets.ensures.reads d (in_clause p b m cs k) refl).comes _ refl >> in_follows p b m cs _ _ _ k _ _ c.in_ok-expect.ensures.read >> (c.in_ok-over.ensures.reads d _).comes _ refl) (over_broken p b m cs _ _ _ k _ _ _ c.in-Some.is c.target_fault.ensures))
 
 pub comprehension::for_clause-returns-clause-reads : goal.comprehension::for_clause-returns-clause-reads
-comprehension::for_clause-returns-clause-reads g met c d p b m cs k = gives (state_is ((c.in_ok-targets.ensures.reads d (in_clause p b m cs k) refl).comes _ refl >> in_follows p b m cs _ _ _ k _ _ c.in_ok-expect.ensures.read >> (c.in_ok-over.ensures.reads d _).comes _ refl >> over_ends p b m cs _ _ _ k _ (right_target (g.B.Make.means c.in_ok-targets.targets) _ c.in_default.is c.target_fault.ensures)) (ap (λ z. stands (clauses_read p b m (tree.and_clause cs z)) k) (sym (c.for_clause.ensures ∙ both_same tree.for_clause c.in_ok-target.ensures refl))))
+comprehension::for_clause-returns-clause-reads g met c d p b m cs k = gives (state_is ((c.in_ok-targets.ensures.reads d (in_clause p b m cs k) refl).comes _ refl >> in_follows p b m cs _ _ _ k _ _ c.in_ok-expect.ensures.read >> (c.in_ok-over.ensures.reads d _).comes _ refl >> over_ends p b m cs _ _ _ k _ (right_target (g.B.Make.means c.in_ok-targets.targets) _ c.in_default.is c.target_fault.ensures)) (ap (λ z. stands (clauses_read p b m (tree.and_clause cs z)) k) (sym (c.for_clause.ensures ∙ ap₂ tree.for_clause c.in_ok-target.ensures refl))))
 
 pub listed::listed-returns-in_err-first-clause-reads : goal.listed::listed-returns-in_err-first-clause-reads
 listed::listed-returns-in_err-first-clause-reads g met c d k h = exits (search rules) (list_begins k _ _ h) (c.in_err-first.ensures.reads d _)
@@ -787,7 +787,7 @@ pub listed::listed_behind-returns-then-not-branch-2-clause-reads : goal.listed::
 listed::listed_behind-returns-then-not-branch-2-clause-reads g met c d k h =
     let n = left_it _ _ comma _ c.if-not-branch-2.true c.in_ok-accept-2.ensures in
     let one : items_of g.B.Make.means c.push-in-loop-begin.new.self.items ≡ tree.more (items_of g.B.Make.means c.loop-begin.members.items) (tree.item (g.B.Make.means c.in_ok-next.next)) = ap (items_of g.B.Make.means) c.in_ok-push-2.ensures.items ∙ one_more (λ x. tree.item (g.B.Make.means x)) c.loop-begin.members.items c.in_ok-next.next in
-    gives (c.loop-begin.invariant.reads d k h >> list_goes_on_with k _ _ _ _ _ c.loop-begin.invariant.filled h (sym c.if-not-begins_test.ensures) >> (c.in_ok-next.ensures.reads d _).comes _ refl >> list_forgets k _ _ _ _ _ _ >> list_is k _ _ _ _ c.loop-begin.invariant.filled n (c.tuple.ensures ∙ both_same tree.tuple one c.since-span-in-loop-begin.ensures))
+    gives (c.loop-begin.invariant.reads d k h >> list_goes_on_with k _ _ _ _ _ c.loop-begin.invariant.filled h (sym c.if-not-begins_test.ensures) >> (c.in_ok-next.ensures.reads d _).comes _ refl >> list_forgets k _ _ _ _ _ _ >> list_is k _ _ _ _ c.loop-begin.invariant.filled n (c.tuple.ensures ∙ ap₂ tree.tuple one c.since-span-in-loop-begin.ensures))
 
 pub listed::listed_behind-loop-begin-preserved : goal.listed::listed_behind-loop-begin-preserved
 listed::listed_behind-loop-begin-preserved g met c =

@@ -1,4 +1,4 @@
-use Rattle.std.proofs.Common.{◌≡◌, ◌∙◌, refl, ap, sym, rules, arith, length, string_bytes}
+use Rattle.std.proofs.Common.{◌≡◌, ◌∙◌, refl, ap, sym, rules, arith, length, string_bytes, ap₂}
 use Rattle.starlark_ast.specs.Tree.{add_statement, define, either, name_at, no_statements, repeat, when}
 use Rattle.starlark_ast.specs.View.{members}
 use Rattle.starlark_lexer.specs.Items.{keyword_def, keyword_elif, keyword_else, keyword_for, keyword_if, newline}
@@ -10,7 +10,7 @@ use Rattle.starlark_read.specs.Reads.{in_statement}
 use Rattle.starlark_grammar.specs.Spans.{stretch}
 use Rattle.starlark_read.proofs.Branching.{def_named, elif_begins, else_begins, if_is, loop_broken, loop_ends, no_colon_next, no_def_name, no_source_end, no_target_end, no_test_end, pushed_as, settled_as}
 use Rattle.starlark_read.proofs.Exits.{begins, ◌>>◌, renamed, exits, behind_it, read_it, left_it, gives, goes, sticks, missing, stays_there, answers, halts, refuses}
-use Rattle.starlark_read.proofs.Gathering.{before, both_same, passes_from, still}
+use Rattle.starlark_read.proofs.Gathering.{before, passes_from, still}
 use Rattle.starlark_read.proofs.Listing.{right_target}
 use Rattle.starlark_read.proofs.Naming.{named, unnamed}
 use Rattle.starlark_read.proofs.Suites.{def_begins, first_line, for_begins, if_begins, is_line, lines_as, lines_end, no_first_line, no_indent, no_lines_end, none_counted, row_begins, some_counted, suite_in_line}
@@ -133,7 +133,7 @@ for_loop::for_loop-returns-clause-reads g met c k =
     let q = g.B.Make.means c.in_ok-over.over in
     let s = g.B.Make.says c.in_ok-body.body in
     let p = c.args.begin in
-    gives (pushed_as k _ (repeat (target_of l) q s (stretch p _)) ((c.in_ok-targets.ensures.reads c.args.dialect.now (in_statement (target p k)) refl).comes _ refl >> goes c.in_ok-expect.ensures.read refl refl >> (c.in_ok-over.ensures.reads c.args.dialect.now (spot (source l p k))).comes _ refl >> goes c.in_ok-expect-2.ensures.read refl refl >> (c.in_ok-body.ensures.reads (of_for l q p k)).comes _ refl >> loop_ends l _ _ _ (right_target l _ c.in_default.is c.target_fault.ensures)) (c.in_ok-for_statement.ensures ∙ both_same (λ y z. repeat y q s z) c.in_ok-target.ensures c.since-span.ensures))
+    gives (pushed_as k _ (repeat (target_of l) q s (stretch p _)) ((c.in_ok-targets.ensures.reads c.args.dialect.now (in_statement (target p k)) refl).comes _ refl >> goes c.in_ok-expect.ensures.read refl refl >> (c.in_ok-over.ensures.reads c.args.dialect.now (spot (source l p k))).comes _ refl >> goes c.in_ok-expect-2.ensures.read refl refl >> (c.in_ok-body.ensures.reads (of_for l q p k)).comes _ refl >> loop_ends l _ _ _ (right_target l _ c.in_default.is c.target_fault.ensures)) (c.in_ok-for_statement.ensures ∙ ap₂ (λ y z. repeat y q s z) c.in_ok-target.ensures c.since-span.ensures))
 
 pub statement::statement-returns-then-branch-clause-reads : goal.statement::statement-returns-then-branch-clause-reads
 statement::statement-returns-then-branch-clause-reads g met c k e z n d = behind_it (if_begins k e _ _ _ c.begin-begin.ensures (read_it _ _ keyword_if _ c.if-branch.true c.in_ok-accept.ensures)) (c.branches.ensures.reads (at_if k))

@@ -1,5 +1,5 @@
-use Rattle.std.proofs.Common.{◌∙◌, sym, ap, arith}
-use Rattle.starlark_clone.proofs.Made.{as_both, as_three, clause_again, literal_again, member_again}
+use Rattle.std.proofs.Common.{◌∙◌, sym, ap, arith, ap₂}
+use Rattle.starlark_clone.proofs.Made.{as_three, clause_again, literal_again, member_again}
 use Rattle.starlark_ast.proofs.Anywhere.{expr_as_large, argument_as_large, parameter_as_large, target_as_large}
 use Rattle.starlark_ast.proofs.Written.{clause_is_less, more_clauses, member_is_less}
 use Rattle.starlark_clone.specs.Copies.{seen}
@@ -75,7 +75,7 @@ pub entries-loop-x-preserved : goal.entries-loop-x-preserved
 entries-loop-x-preserved g n c =
     let r = g.R.Rename.renames c.args.by.now in
     let f = g.M.Make.expr_means in
-    member_again r (λ y. tree.pair (seen f y.0) (seen f y.1)) (λ x. tree.pair (expr_at x.0) (expr_at x.1)) c.loop-x.all.items _ _ c.args.xs.now c.loop-x.x-index c.x-item.result c.in_ok-push.ensures.items c.loop-x-test.true c.x-item.is c.loop-x.invariant (as_both tree.pair c.in_ok-key.ensures c.in_ok-value.ensures)
+    member_again r (λ y. tree.pair (seen f y.0) (seen f y.1)) (λ x. tree.pair (expr_at x.0) (expr_at x.1)) c.loop-x.all.items _ _ c.args.xs.now c.loop-x.x-index c.x-item.result c.in_ok-push.ensures.items c.loop-x-test.true c.x-item.is c.loop-x.invariant (ap₂ tree.pair c.in_ok-key.ensures c.in_ok-value.ensures)
 
 pub arguments-loop-x-preserved : goal.arguments-loop-x-preserved
 arguments-loop-x-preserved g n c =
@@ -146,7 +146,7 @@ expression-returns-in_ok-arguments-in-Call g n c =
     let s = c.args.span in
     let arm = c.in-Call in
     c.call.ensures s
-    ∙ as_both (λ x ms. tree.call x ms s)
+    ∙ ap₂ (λ x ms. tree.call x ms s)
     (c.in_ok-called-in-Call.ensures ∙ ap (λ y. replaced r (expr_at y)) c.deref-in-Call.ensures)
     (c.in_ok-arguments-in-Call.ensures ∙ ap (replaced_members r) (ap (λ q. members argument_at q) c.deref-in-Call-2.ensures.value ∙ sym (view-args arm.args)))
     ∙ sym (ap (replaced r) (ap (λ y. expr_view y s) arm.is ∙ expr_view-Call arm.called arm.args s))
@@ -157,7 +157,7 @@ expression-returns-in_ok-two-in-Index g n c =
     let s = c.args.span in
     let arm = c.in-Index in
     c.index.ensures s
-    ∙ as_both (λ x y. tree.index x (tree.single y) s)
+    ∙ ap₂ (λ x y. tree.index x (tree.single y) s)
     (c.in_ok-two-in-Index.ensures.first ∙ ap (λ y. replaced r (expr_at y.0)) c.deref-in-Index.ensures)
     (c.in_ok-two-in-Index.ensures.second ∙ ap (λ y. replaced r (expr_at y.1)) c.deref-in-Index.ensures)
     ∙ sym (ap (replaced r) (ap (λ y. expr_view y s) arm.is ∙ expr_view-Index arm.parts s))
@@ -237,7 +237,7 @@ expression-returns-in_ok-identifier-in-Identifier g n c =
     let s = c.args.span in
     let arm = c.in-Identifier in
     c.identifier-in-Identifier.ensures s
-    ∙ as_both (λ m u. tree.leaf (tree.name m) u s) c.in_ok-identifier-in-Identifier.ensures.bytes c.in_ok-identifier-in-Identifier.ensures.place
+    ∙ ap₂ (λ m u. tree.leaf (tree.name m) u s) c.in_ok-identifier-in-Identifier.ensures.bytes c.in_ok-identifier-in-Identifier.ensures.place
     ∙ sym (ap (replaced r) (ap (λ y. expr_view y s) arm.is ∙ expr_view-Identifier arm.name s))
 
 pub expression-returns-in_ok-params-in-Lambda : goal.expression-returns-in_ok-params-in-Lambda
@@ -246,7 +246,7 @@ expression-returns-in_ok-params-in-Lambda g n c =
     let s = c.args.span in
     let arm = c.in-Lambda in
     c.lambda.ensures s
-    ∙ as_both (λ ms x. tree.lambda ms x s) c.in_ok-params-in-Lambda.ensures.params c.in_ok-params-in-Lambda.ensures.body
+    ∙ ap₂ (λ ms x. tree.lambda ms x s) c.in_ok-params-in-Lambda.ensures.params c.in_ok-params-in-Lambda.ensures.body
     ∙ sym (ap (replaced r) (ap (λ y. expr_view y s) arm.is ∙ expr_view-Lambda arm.inner s ∙ view-lambda arm.inner s))
 
 pub expression-returns-in_ok-format-in-FString : goal.expression-returns-in_ok-format-in-FString
@@ -266,9 +266,9 @@ expression-returns-in_ok-boxed-in-ListComprehension g n c =
     let s = c.args.span in
     let arm = c.in-ListComprehension in
     c.list_comprehension.ensures s
-    ∙ as_both (λ x cs. tree.comprehension (tree.item x) cs s)
+    ∙ ap₂ (λ x cs. tree.comprehension (tree.item x) cs s)
     (c.in_ok-boxed-in-ListComprehension.ensures ∙ ap (λ y. replaced r (expr_at y)) c.deref-in-ListComprehension-3.ensures)
-    (c.in_ok-first-in-ListComprehension.ensures ∙ ap (replaced_clauses r) (as_both clauses_of c.deref-in-ListComprehension.ensures c.deref-in-ListComprehension-2.ensures.value))
+    (c.in_ok-first-in-ListComprehension.ensures ∙ ap (replaced_clauses r) (ap₂ clauses_of c.deref-in-ListComprehension.ensures c.deref-in-ListComprehension-2.ensures.value))
     ∙ sym (ap (replaced r) (ap (λ y. expr_view y s) arm.is ∙ expr_view-ListComprehension arm.element arm.first arm.rest s))
 
 pub expression-returns-in_ok-two-in-DictComprehension : goal.expression-returns-in_ok-two-in-DictComprehension
@@ -280,7 +280,7 @@ expression-returns-in_ok-two-in-DictComprehension g n c =
     ∙ as_three (λ k v cs. tree.comprehension (tree.pair k v) cs s)
     (c.in_ok-two-in-DictComprehension.ensures.first ∙ ap (λ y. replaced r (expr_at y.0)) c.deref-in-DictComprehension-3.ensures)
     (c.in_ok-two-in-DictComprehension.ensures.second ∙ ap (λ y. replaced r (expr_at y.1)) c.deref-in-DictComprehension-3.ensures)
-    (c.in_ok-first-in-DictComprehension.ensures ∙ ap (replaced_clauses r) (as_both clauses_of c.deref-in-DictComprehension.ensures c.deref-in-DictComprehension-2.ensures.value))
+    (c.in_ok-first-in-DictComprehension.ensures ∙ ap (replaced_clauses r) (ap₂ clauses_of c.deref-in-DictComprehension.ensures c.deref-in-DictComprehension-2.ensures.value))
     ∙ sym (ap (replaced r) (ap (λ y. expr_view y s) arm.is ∙ expr_view-DictComprehension arm.entry arm.first arm.rest s))
 
 pub target-returns-in_ok-targets-in-Tuple : goal.target-returns-in_ok-targets-in-Tuple

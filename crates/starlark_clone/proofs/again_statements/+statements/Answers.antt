@@ -1,7 +1,7 @@
-use Rattle.std.proofs.Common.{◌∙◌, sym, ap, arith, Some, None}
+use Rattle.std.proofs.Common.{◌∙◌, sym, ap, arith, Some, None, ap₂}
 use Rattle.starlark_ast.proofs.Blocks.{sequence_size, statement_as_large, statement_is_less, statement_size}
 use Rattle.starlark_clone.proofs.MadeStatements.{as_four, statement_again}
-use Rattle.starlark_clone.proofs.Made.{as_both, as_three}
+use Rattle.starlark_clone.proofs.Made.{as_three}
 use Rattle.starlark_clone.specs.Copies.{seen}
 use Rattle.starlark_clone.specs.Replacing.{replaced, replaced_sequence, replaced_statement}
 use Rattle.starlark_ast.specs.Shown.{nowhere}
@@ -95,7 +95,7 @@ statement-returns-in_ok-boxed-in-AssignModify g n c s =
     let r = g.R.Rename.renames c.args.by.now in
     let arm = c.in-AssignModify in
     c.modify.ensures s
-    ∙ as_both (λ x y. tree.assign x tree.untyped (Some arm.op) y s) c.in_ok-lhs-in-AssignModify.ensures (c.in_ok-boxed-in-AssignModify.ensures ∙ ap (λ y. replaced r (expr_at y)) c.deref.ensures)
+    ∙ ap₂ (λ x y. tree.assign x tree.untyped (Some arm.op) y s) c.in_ok-lhs-in-AssignModify.ensures (c.in_ok-boxed-in-AssignModify.ensures ∙ ap (λ y. replaced r (expr_at y)) c.deref.ensures)
     ∙ sym (ap (replaced_statement r) (ap (λ y. stmt_view y s) arm.is ∙ stmt_view-AssignModify arm.lhs arm.op arm.rhs s))
 
 pub statement-returns-in_ok-several-in-Statements : goal.statement-returns-in_ok-several-in-Statements
@@ -111,7 +111,7 @@ statement-returns-in_ok-body-in-If g n c s =
     let r = g.R.Rename.renames c.args.by.now in
     let arm = c.in-If in
     c.if_statement.ensures s
-    ∙ as_both (λ x a. tree.when x a s) c.in_ok-condition-in-If.ensures (c.in_ok-body-in-If.ensures ∙ ap (λ y. replaced_statement r (stmt_at y)) c.deref-in-If.ensures)
+    ∙ ap₂ (λ x a. tree.when x a s) c.in_ok-condition-in-If.ensures (c.in_ok-body-in-If.ensures ∙ ap (λ y. replaced_statement r (stmt_at y)) c.deref-in-If.ensures)
     ∙ sym (ap (replaced_statement r) (ap (λ y. stmt_view y s) arm.is ∙ stmt_view-If arm.condition arm.suite s))
 
 pub statement-returns-in_ok-bodies-in-IfElse : goal.statement-returns-in_ok-bodies-in-IfElse

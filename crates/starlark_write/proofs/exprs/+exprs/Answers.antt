@@ -1,4 +1,4 @@
-use Rattle.std.proofs.Common.{rules, of_calls, arith, ◌≡◌, ◌<◌, ◌+◌, refl, sym, ap, ◌∙◌, subst, ◌++◌, append_assoc, flat_map, length, drop}
+use Rattle.std.proofs.Common.{rules, of_calls, arith, ◌≡◌, ◌<◌, ◌+◌, refl, sym, ap, ◌∙◌, subst, ◌++◌, append_assoc, flat_map, length, drop, ap₂}
 use Rattle.std.specs.List.{sum_by}
 use denote.Param.{param}
 use Rattle.std.specs.Vec.{SameBlock}
@@ -14,7 +14,7 @@ use Rattle.starlark_write.specs.TypePlaces.{argument_types, clause_types, defaul
 use Rattle.starlark_write.specs.Writing.{WritesUntil}
 use Rattle.starlark_write.proofs.KeptParts.{argument_kept, expr_of_with}
 use Rattle.starlark_write.proofs.KeptTypes.{KeepsPair, all_back, argument_nodes_of, argument_types_of, arguments_back, blocks_then, clauses_back, defaults_back, fewer, maybe_same, pairs_back, same_default_nodes, same_defaults, same_own, targets_back}
-use Rattle.starlark_write.proofs.Lent.{both, expr_lent, seen, seen_left, target_lent}
+use Rattle.starlark_write.proofs.Lent.{expr_lent, seen, seen_left, target_lent}
 use Rattle.starlark_write.proofs.Loops as loops
 use Rattle.starlark_write.proofs.Loops.{both_more, end_in, front_more, lengths_more, stop_in, take_back, whole, writes_more, writes_stop_here}
 use Rattle.starlark_write.proofs.TypeParts.{call_args_types-parts, clause_types-For, clause_types-If, default_types-Args, default_types-KwArgs, default_types-NoArgs, default_types-Normal, default_types-Slash, expr_types-BitNot, expr_types-Call, expr_types-Dict, expr_types-DictComprehension, expr_types-Dot, expr_types-FString, expr_types-Identifier, expr_types-If, expr_types-Index, expr_types-Index2, expr_types-Lambda, expr_types-List, expr_types-ListComprehension, expr_types-Literal, expr_types-Minus, expr_types-Not, expr_types-Op, expr_types-Plus, expr_types-Slice, expr_types-Tuple, for_clause_types-parts, fstring_types-parts, lambda_types-parts, target_types-Dot, target_types-Identifier, target_types-Index, target_types-Tuple}
@@ -186,7 +186,7 @@ expr-returns-in-Dot-clause-kept g t c =
 
 pub expr-returns-in-Call-clause-calls : goal.expr-returns-in-Call-clause-calls
 expr-returns-in-Call-clause-calls g t c =
-    writes_at g.F.FnMut (ap expr_types c.in-Call.is ∙ expr_types-Call c.in-Call.x c.in-Call.args ∙ ap (λ q. expr_types c.in-Call.x.value.node ++ q) (call_args_types-parts c.in-Call.args) ∙ both (λ p q. expr_types p.value.node ++ flat_map (λ a. argument_types a.node) q.args.items) (sym c.in-Call.x-is) (sym c.in-Call.args-is)) (expr_types-Call c.call.new.x c.call.new.args ∙ ap (λ q. expr_types c.call.new.x.value.node ++ q) (call_args_types-parts c.call.new.args)) c.call.ensures.calls
+    writes_at g.F.FnMut (ap expr_types c.in-Call.is ∙ expr_types-Call c.in-Call.x c.in-Call.args ∙ ap (λ q. expr_types c.in-Call.x.value.node ++ q) (call_args_types-parts c.in-Call.args) ∙ ap₂ (λ p q. expr_types p.value.node ++ flat_map (λ a. argument_types a.node) q.args.items) (sym c.in-Call.x-is) (sym c.in-Call.args-is)) (expr_types-Call c.call.new.x c.call.new.args ∙ ap (λ q. expr_types c.call.new.x.value.node ++ q) (call_args_types-parts c.call.new.args)) c.call.ensures.calls
 
 pub expr-returns-in-Call-clause-kept : goal.expr-returns-in-Call-clause-kept
 expr-returns-in-Call-clause-kept g t c =
@@ -198,7 +198,7 @@ expr-returns-in-Call-clause-kept g t c =
 
 pub expr-returns-in-Slice-clause-calls : goal.expr-returns-in-Slice-clause-calls
 expr-returns-in-Slice-clause-calls g t c =
-    writes_at g.F.FnMut (ap expr_types c.in-Slice.is ∙ expr_types-Slice c.in-Slice.x c.in-Slice.a c.in-Slice.b c.in-Slice.c ∙ both (λ p q. expr_types p.value.node ++ q) (sym c.in-Slice.x-is) (both (λ p q. maybe_expr_types p ++ q) (sym c.in-Slice.a-is) (both (λ p q. maybe_expr_types p ++ maybe_expr_types q) (sym c.in-Slice.b-is) (sym c.in-Slice.c-is)))) (expr_types-Slice c.slice.new.x c.slice.new.a c.slice.new.b c.slice.new.c) c.slice.ensures.calls
+    writes_at g.F.FnMut (ap expr_types c.in-Slice.is ∙ expr_types-Slice c.in-Slice.x c.in-Slice.a c.in-Slice.b c.in-Slice.c ∙ ap₂ (λ p q. expr_types p.value.node ++ q) (sym c.in-Slice.x-is) (ap₂ (λ p q. maybe_expr_types p ++ q) (sym c.in-Slice.a-is) (ap₂ (λ p q. maybe_expr_types p ++ maybe_expr_types q) (sym c.in-Slice.b-is) (sym c.in-Slice.c-is)))) (expr_types-Slice c.slice.new.x c.slice.new.a c.slice.new.b c.slice.new.c) c.slice.ensures.calls
 
 pub expr-returns-in-Slice-clause-kept : goal.expr-returns-in-Slice-clause-kept
 expr-returns-in-Slice-clause-kept g t c =
@@ -210,7 +210,7 @@ expr-returns-in-Slice-clause-kept g t c =
 
 pub expr-returns-in-Op-clause-calls : goal.expr-returns-in-Op-clause-calls
 expr-returns-in-Op-clause-calls g t c =
-    writes_at g.F.FnMut (ap expr_types c.in-Op.is ∙ expr_types-Op c.in-Op.x c.in-Op.op c.in-Op.y ∙ both (λ p q. expr_types p.value.node ++ expr_types q.value.node) (sym c.in-Op.x-is) (sym c.in-Op.y-is)) (expr_types-Op c.operation.new.x c.operation.new.op c.operation.new.y) c.operation.ensures.calls
+    writes_at g.F.FnMut (ap expr_types c.in-Op.is ∙ expr_types-Op c.in-Op.x c.in-Op.op c.in-Op.y ∙ ap₂ (λ p q. expr_types p.value.node ++ expr_types q.value.node) (sym c.in-Op.x-is) (sym c.in-Op.y-is)) (expr_types-Op c.operation.new.x c.operation.new.op c.operation.new.y) c.operation.ensures.calls
 
 pub expr-returns-in-Op-clause-kept : goal.expr-returns-in-Op-clause-kept
 expr-returns-in-Op-clause-kept g t c =
@@ -222,7 +222,7 @@ expr-returns-in-Op-clause-kept g t c =
 
 pub expr-returns-in-ListComprehension-clause-calls : goal.expr-returns-in-ListComprehension-clause-calls
 expr-returns-in-ListComprehension-clause-calls g t c =
-    writes_at g.F.FnMut (ap expr_types c.in-ListComprehension.is ∙ expr_types-ListComprehension c.in-ListComprehension.x c.in-ListComprehension.first c.in-ListComprehension.rest ∙ both (λ p q. for_clause_types p.value ++ q) (sym c.in-ListComprehension.first-is) (both (λ p q. flat_map clause_types p.items ++ expr_types q.value.node) (sym c.in-ListComprehension.rest-is) (sym c.in-ListComprehension.x-is))) (expr_types-ListComprehension c.listed.new.x c.listed.new.first c.listed.new.rest) c.listed.ensures.calls
+    writes_at g.F.FnMut (ap expr_types c.in-ListComprehension.is ∙ expr_types-ListComprehension c.in-ListComprehension.x c.in-ListComprehension.first c.in-ListComprehension.rest ∙ ap₂ (λ p q. for_clause_types p.value ++ q) (sym c.in-ListComprehension.first-is) (ap₂ (λ p q. flat_map clause_types p.items ++ expr_types q.value.node) (sym c.in-ListComprehension.rest-is) (sym c.in-ListComprehension.x-is))) (expr_types-ListComprehension c.listed.new.x c.listed.new.first c.listed.new.rest) c.listed.ensures.calls
 
 pub expr-returns-in-ListComprehension-clause-kept : goal.expr-returns-in-ListComprehension-clause-kept
 expr-returns-in-ListComprehension-clause-kept g t c =
@@ -234,7 +234,7 @@ expr-returns-in-ListComprehension-clause-kept g t c =
 
 pub expr-returns-in-DictComprehension-clause-calls : goal.expr-returns-in-DictComprehension-clause-calls
 expr-returns-in-DictComprehension-clause-calls g t c =
-    writes_at g.F.FnMut (ap expr_types c.in-DictComprehension.is ∙ expr_types-DictComprehension c.in-DictComprehension.x c.in-DictComprehension.first c.in-DictComprehension.rest ∙ both (λ p q. for_clause_types p.value ++ q) (sym c.in-DictComprehension.first-is) (both (λ p q. flat_map clause_types p.items ++ (expr_types q.value.0.node ++ expr_types q.value.1.node)) (sym c.in-DictComprehension.rest-is) (sym c.in-DictComprehension.x-is))) (expr_types-DictComprehension c.mapped.new.x c.mapped.new.first c.mapped.new.rest) c.mapped.ensures.calls
+    writes_at g.F.FnMut (ap expr_types c.in-DictComprehension.is ∙ expr_types-DictComprehension c.in-DictComprehension.x c.in-DictComprehension.first c.in-DictComprehension.rest ∙ ap₂ (λ p q. for_clause_types p.value ++ q) (sym c.in-DictComprehension.first-is) (ap₂ (λ p q. flat_map clause_types p.items ++ (expr_types q.value.0.node ++ expr_types q.value.1.node)) (sym c.in-DictComprehension.rest-is) (sym c.in-DictComprehension.x-is))) (expr_types-DictComprehension c.mapped.new.x c.mapped.new.first c.mapped.new.rest) c.mapped.ensures.calls
 
 pub expr-returns-in-DictComprehension-clause-kept : goal.expr-returns-in-DictComprehension-clause-kept
 expr-returns-in-DictComprehension-clause-kept g t c =

@@ -1,4 +1,4 @@
-use Rattle.std.proofs.Common.{rules, of_calls, arith, ◌≡◌, ◌<◌, refl, sym, ap, ◌∙◌, subst, [], ◌∷◌, ◌++◌, append-nil, flat_map, length, get_or, get_or-set_other, ◌+◌, ◌*◌, ◌≤◌}
+use Rattle.std.proofs.Common.{rules, of_calls, arith, ◌≡◌, ◌<◌, refl, sym, ap, ◌∙◌, subst, [], ◌∷◌, ◌++◌, append-nil, flat_map, length, get_or, get_or-set_other, ◌+◌, ◌*◌, ◌≤◌, ap₂}
 use Rattle.std.proofs.lemmas.List.Sums.{get_or-le-sum_by}
 use Rattle.std.specs.List.{sum_by}
 use Rattle.starlark_ast.proofs.Tops.{count}
@@ -13,7 +13,7 @@ use Rattle.starlark_write.specs.BesideStatements.{KeepsDefHead, KeepsForHead, Ke
 use Rattle.starlark_write.specs.Writing.{WritesUntil}
 use Rattle.starlark_write.proofs.KeptParts.{with_node}
 use Rattle.starlark_write.proofs.KeptStatements.{count-Statements, count_kept, inner_below, inner_kept, exprs_kept, stmts_kept, outers_at, outers_length, outers_rest}
-use Rattle.starlark_write.proofs.Lent.{both, seen, seen_left, stmt_fields, stmt_lent}
+use Rattle.starlark_write.proofs.Lent.{seen, seen_left, stmt_fields, stmt_lent}
 use Rattle.starlark_write.proofs.Loops as loops
 use Rattle.starlark_write.proofs.Loops.{both_more, end_in, front_more, lengths_more, stop_in, take_back, whole, writes_more, writes_stop_here}
 use Rattle.starlark_write.proofs.Writes.{writes_at, writes_none, writes_stop, writes_then}
@@ -32,7 +32,7 @@ outer-returns-clause-calls g t c =
     let x = c.args.x.now in
     let y = c.exprs_err_mut.new.x in
     let z = c.inner.new.x in
-    writes_at g.F.FnMut (ap (λ q. exprs_below x ++ q) (inner_below x ∙ ap (flat_map (λ s. outer_exprs s.node)) (sym (stmts_kept c.exprs_err_mut.ensures.kept)))) (both (λ p q. p ++ q) (exprs_kept c.inner.ensures.kept) (inner_below z)) (writes_then g.F.FnMut c.exprs_err_mut.ensures.calls c.in_default.is c.inner.ensures.calls)
+    writes_at g.F.FnMut (ap (λ q. exprs_below x ++ q) (inner_below x ∙ ap (flat_map (λ s. outer_exprs s.node)) (sym (stmts_kept c.exprs_err_mut.ensures.kept)))) (ap₂ (λ p q. p ++ q) (exprs_kept c.inner.ensures.kept) (inner_below z)) (writes_then g.F.FnMut c.exprs_err_mut.ensures.calls c.in_default.is c.inner.ensures.calls)
 
 pub outer-returns-clause-kept : goal.outer-returns-clause-kept
 outer-returns-clause-kept g t c = beside.outer c.exprs_err_mut.ensures.kept c.inner.ensures.kept c.inner.ensures.below

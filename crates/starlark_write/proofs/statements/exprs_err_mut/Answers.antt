@@ -1,4 +1,4 @@
-use Rattle.std.proofs.Common.{refl, sym, ap, ◌∙◌, subst, [], ◌∷◌, ◌++◌}
+use Rattle.std.proofs.Common.{refl, sym, ap, ◌∙◌, subst, [], ◌∷◌, ◌++◌, ap₂}
 use denote.Param.{param}
 use Rattle.starlark_write.specs.Beside.{AtPlace, KeepsTarget, SameBox, stands}
 use Rattle.starlark_write.specs.BesideStatements as beside
@@ -7,7 +7,7 @@ use Rattle.starlark_ast.specs.Places.{target_places}
 use Rattle.starlark_ast.specs.Statements.{assign_places, def_places, exprs_below, exprs_layer, for_places, maybe_here}
 use Rattle.starlark_write.specs.Writing.{WritesUntil}
 use Rattle.starlark_ast.specs.declared.ast.StmtP.TheVariants as stmt
-use Rattle.starlark_write.proofs.Lent.{both, seen, seen_left, stmt_lent}
+use Rattle.starlark_write.proofs.Lent.{seen, seen_left, stmt_lent}
 use Rattle.starlark_write.proofs.Writes.{writes_at, writes_none}
 use Rattle.starlark_write.proofs.statements.exprs_err_mut.Goals as goal
 
@@ -58,7 +58,7 @@ returns-in-Def-clause-kept g c =
 
 pub returns-in-AssignModify-clause-calls : goal.returns-in-AssignModify-clause-calls
 returns-in-AssignModify-clause-calls g c =
-    writes_at g.F.FnMut (ap exprs_below c.in-AssignModify.is ∙ ap exprs_layer (stmt.outs-AssignModify c.in-AssignModify.lhs c.in-AssignModify.op c.in-AssignModify.rhs) ∙ both (λ p q. target_places p.node ++ q.value ∷ []) (sym c.in-AssignModify.lhs-is) (sym c.in-AssignModify.rhs-is)) (ap exprs_layer (stmt.outs-AssignModify c.modified.new.lhs c.modified.new.op c.modified.new.rhs)) c.modified.ensures.calls
+    writes_at g.F.FnMut (ap exprs_below c.in-AssignModify.is ∙ ap exprs_layer (stmt.outs-AssignModify c.in-AssignModify.lhs c.in-AssignModify.op c.in-AssignModify.rhs) ∙ ap₂ (λ p q. target_places p.node ++ q.value ∷ []) (sym c.in-AssignModify.lhs-is) (sym c.in-AssignModify.rhs-is)) (ap exprs_layer (stmt.outs-AssignModify c.modified.new.lhs c.modified.new.op c.modified.new.rhs)) c.modified.ensures.calls
 
 pub returns-in-AssignModify-clause-kept : goal.returns-in-AssignModify-clause-kept
 returns-in-AssignModify-clause-kept g c =

@@ -1,4 +1,4 @@
-use Rattle.std.proofs.Common.{rules, of_calls, arith, ◌≡◌, ◌<◌, ◌+◌, refl, sym, ap, ◌∙◌, subst, ◌++◌, append_assoc, flat_map, length, drop, get_or}
+use Rattle.std.proofs.Common.{rules, of_calls, arith, ◌≡◌, ◌<◌, ◌+◌, refl, sym, ap, ◌∙◌, subst, ◌++◌, append_assoc, flat_map, length, drop, get_or, ap₂}
 use denote.Param.{param}
 use Rattle.std.specs.Vec.{SameBlock}
 use Rattle.starlark_ast.specs.Places.{maybe_place}
@@ -11,7 +11,7 @@ use Rattle.starlark_write.specs.TypePlaces.{assign_types, def_types, default_typ
 use Rattle.starlark_write.specs.Writing.{WritesUntil}
 use Rattle.starlark_write.proofs.KeptParts.{with_node}
 use Rattle.starlark_write.proofs.KeptTypes.{blocks_then, fewer, same_defaults, same_own, stmts_back}
-use Rattle.starlark_write.proofs.Lent.{both, seen, seen_left, stmt_lent}
+use Rattle.starlark_write.proofs.Lent.{seen, seen_left, stmt_lent}
 use Rattle.starlark_write.proofs.Loops as loops
 use Rattle.starlark_write.proofs.Loops.{both_more, end_in, front_more, lengths_more, stop_in, take_back, whole, writes_more, writes_stop_here}
 use Rattle.starlark_write.proofs.StatementTypeParts.{count-IfElse, def_types-parts, for_types-parts, stmt_types-Assign, stmt_types-AssignModify, stmt_types-Break, stmt_types-Continue, stmt_types-Def, stmt_types-Expression, stmt_types-For, stmt_types-If, stmt_types-IfElse, stmt_types-Load, stmt_types-Pass, stmt_types-Return, stmt_types-Statements}
@@ -111,7 +111,7 @@ stmt-returns-in-Load-clause-kept g t c =
 
 pub stmt-returns-in-AssignModify-clause-calls : goal.stmt-returns-in-AssignModify-clause-calls
 stmt-returns-in-AssignModify-clause-calls g t c =
-    writes_at g.F.FnMut (ap stmt_types c.in-AssignModify.is ∙ stmt_types-AssignModify c.in-AssignModify.lhs c.in-AssignModify.op c.in-AssignModify.rhs ∙ both (λ p q. target_types p.node ++ expr_types q.value.node) (sym c.in-AssignModify.lhs-is) (sym c.in-AssignModify.rhs-is)) (stmt_types-AssignModify c.modify.new.lhs c.modify.new.op c.modify.new.rhs) c.modify.ensures.calls
+    writes_at g.F.FnMut (ap stmt_types c.in-AssignModify.is ∙ stmt_types-AssignModify c.in-AssignModify.lhs c.in-AssignModify.op c.in-AssignModify.rhs ∙ ap₂ (λ p q. target_types p.node ++ expr_types q.value.node) (sym c.in-AssignModify.lhs-is) (sym c.in-AssignModify.rhs-is)) (stmt_types-AssignModify c.modify.new.lhs c.modify.new.op c.modify.new.rhs) c.modify.ensures.calls
 
 pub stmt-returns-in-AssignModify-clause-kept : goal.stmt-returns-in-AssignModify-clause-kept
 stmt-returns-in-AssignModify-clause-kept g t c =
@@ -122,7 +122,7 @@ stmt-returns-in-AssignModify-clause-kept g t c =
 
 pub stmt-returns-in-If-clause-calls : goal.stmt-returns-in-If-clause-calls
 stmt-returns-in-If-clause-calls g t c =
-    writes_at g.F.FnMut (ap stmt_types c.in-If.is ∙ stmt_types-If c.in-If.c c.in-If.x ∙ both (λ p q. expr_types p.node ++ stmt_types q.value.node) (sym c.in-If.c-is) (sym c.in-If.x-is)) (stmt_types-If c.branch-c.new.c c.branch-c.new.x) c.branch-c.ensures.calls
+    writes_at g.F.FnMut (ap stmt_types c.in-If.is ∙ stmt_types-If c.in-If.c c.in-If.x ∙ ap₂ (λ p q. expr_types p.node ++ stmt_types q.value.node) (sym c.in-If.c-is) (sym c.in-If.x-is)) (stmt_types-If c.branch-c.new.c c.branch-c.new.x) c.branch-c.ensures.calls
 
 pub stmt-returns-in-If-clause-kept : goal.stmt-returns-in-If-clause-kept
 stmt-returns-in-If-clause-kept g t c =
@@ -133,7 +133,7 @@ stmt-returns-in-If-clause-kept g t c =
 
 pub stmt-returns-in-IfElse-clause-calls : goal.stmt-returns-in-IfElse-clause-calls
 stmt-returns-in-IfElse-clause-calls g t c =
-    writes_at g.F.FnMut (ap stmt_types c.in-IfElse.is ∙ stmt_types-IfElse c.in-IfElse.c c.in-IfElse.x ∙ both (λ p q. expr_types p.node ++ (stmt_types q.value.0.node ++ stmt_types q.value.1.node)) (sym c.in-IfElse.c-is) (sym c.in-IfElse.x-is)) (stmt_types-IfElse c.branches.new.c c.branches.new.x) c.branches.ensures.calls
+    writes_at g.F.FnMut (ap stmt_types c.in-IfElse.is ∙ stmt_types-IfElse c.in-IfElse.c c.in-IfElse.x ∙ ap₂ (λ p q. expr_types p.node ++ (stmt_types q.value.0.node ++ stmt_types q.value.1.node)) (sym c.in-IfElse.c-is) (sym c.in-IfElse.x-is)) (stmt_types-IfElse c.branches.new.c c.branches.new.x) c.branches.ensures.calls
 
 pub stmt-returns-in-IfElse-clause-kept : goal.stmt-returns-in-IfElse-clause-kept
 stmt-returns-in-IfElse-clause-kept g t c =

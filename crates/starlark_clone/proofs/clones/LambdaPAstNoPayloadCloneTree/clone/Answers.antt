@@ -1,5 +1,4 @@
-use Rattle.std.proofs.Common.{◌∙◌, refl, sym, None}
-use Rattle.starlark_clone.proofs.Made.{as_both}
+use Rattle.std.proofs.Common.{◌∙◌, refl, sym, None, ap₂}
 use Rattle.starlark_clone.proofs.Stays.{members_stay, stays}
 use Rattle.starlark_ast.specs.Tree as tree
 use Rattle.starlark_ast.specs.Views.{view-lambda}
@@ -9,5 +8,5 @@ pub returns : goal.returns
 returns c s =
     let parts = c.in_ok-params.ensures in
     view-lambda _ s
-    ∙ as_both (λ ms x. tree.lambda ms x s) (parts.params ∙ members_stay (λ _. None) (λ _. refl) _) (parts.body ∙ stays (λ _. None) (λ _. refl) _)
+    ∙ ap₂ (λ ms x. tree.lambda ms x s) (parts.params ∙ members_stay (λ _. None) (λ _. refl) _) (parts.body ∙ stays (λ _. None) (λ _. refl) _)
     ∙ sym (view-lambda _ s)

@@ -1,6 +1,5 @@
-use Rattle.std.proofs.Common.{ap, ◌∙◌, sym}
+use Rattle.std.proofs.Common.{ap, ◌∙◌, sym, ap₂}
 use Rattle.std.specs.Option.{option_copied}
-use Rattle.starlark_clone.proofs.Made.{as_both}
 use Rattle.starlark_clone.proofs.Moved.{stands}
 use Rattle.starlark_clone.specs.Replacing.{operated}
 use Rattle.starlark_ast.specs.Tree as tree
@@ -22,5 +21,5 @@ returns-in_ok-call_of_name-in-Some c =
     let y = c.args.y.value in
     let n = c.in-Some.name.now in
     c.in_ok-call_of_name-in-Some.ensures
-    ∙ as_both (λ u v. tree.call (tree.leaf (tree.name n) s s) (tree.more (tree.more tree.none (tree.positional (expr_at x) u)) (tree.positional (expr_at y) v)) s) (sym (stands x.node x.span)) (sym (stands y.node y.span))
+    ∙ ap₂ (λ u v. tree.call (tree.leaf (tree.name n) s s) (tree.more (tree.more tree.none (tree.positional (expr_at x) u)) (tree.positional (expr_at y) v)) s) (sym (stands x.node x.span)) (sym (stands y.node y.span))
     ∙ sym (ap (λ q. operated (option_copied q) (expr_at x) c.args.op (expr_at y) s) c.in-Some.is)

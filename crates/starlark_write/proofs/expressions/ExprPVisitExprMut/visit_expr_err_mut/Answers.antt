@@ -1,4 +1,4 @@
-use Rattle.std.proofs.Common.{refl, sym, ap, ◌∙◌, subst, [], ◌∷◌, ◌++◌, flat_map, length}
+use Rattle.std.proofs.Common.{refl, sym, ap, ◌∙◌, subst, [], ◌∷◌, ◌++◌, flat_map, length, ap₂}
 use denote.Param.{param}
 use Rattle.std.specs.Vec.{SameBlock}
 use Rattle.starlark_write.specs.Beside as beside
@@ -6,7 +6,7 @@ use Rattle.starlark_write.specs.Beside.{AtPlace, Each, KeepsArgs, KeepsClause, K
 use Rattle.starlark_ast.specs.Places.{children, expr_layer, clause_places, for_clause_places, maybe_place, pair_places}
 use Rattle.starlark_write.specs.Writing.{WritesUntil}
 use Rattle.starlark_ast.specs.declared.ast.ExprP.TheVariants as expr
-use Rattle.starlark_write.proofs.Lent.{both, expr_lent, seen, seen_left}
+use Rattle.starlark_write.proofs.Lent.{expr_lent, seen, seen_left}
 use Rattle.starlark_write.proofs.Loops.{each_length}
 use Rattle.starlark_write.proofs.Writes.{writes_at, writes_none}
 use Rattle.starlark_write.proofs.expressions.ExprPVisitExprMut.visit_expr_err_mut.Goals as goal
@@ -129,7 +129,7 @@ returns-in-Dot-clause-kept g c =
 
 pub returns-in-Call-clause-calls : goal.returns-in-Call-clause-calls
 returns-in-Call-clause-calls g c =
-    writes_at g.F.FnMut (ap children c.in-Call.is ∙ ap expr_layer (expr.outs-Call c.in-Call.x c.in-Call.args) ∙ both (λ p q. p.value ∷ args_places q) (sym c.in-Call.x-is) (sym c.in-Call.args-is)) (ap expr_layer (expr.outs-Call c.call.new.x c.call.new.args)) c.call.ensures.calls
+    writes_at g.F.FnMut (ap children c.in-Call.is ∙ ap expr_layer (expr.outs-Call c.in-Call.x c.in-Call.args) ∙ ap₂ (λ p q. p.value ∷ args_places q) (sym c.in-Call.x-is) (sym c.in-Call.args-is)) (ap expr_layer (expr.outs-Call c.call.new.x c.call.new.args)) c.call.ensures.calls
 
 pub returns-in-Call-clause-kept : goal.returns-in-Call-clause-kept
 returns-in-Call-clause-kept g c =
@@ -137,7 +137,7 @@ returns-in-Call-clause-kept g c =
 
 pub returns-in-Slice-clause-calls : goal.returns-in-Slice-clause-calls
 returns-in-Slice-clause-calls g c =
-    writes_at g.F.FnMut (ap children c.in-Slice.is ∙ ap expr_layer (expr.outs-Slice c.in-Slice.x c.in-Slice.a c.in-Slice.b c.in-Slice.c) ∙ both (λ p q. p.value ∷ q) (sym c.in-Slice.x-is) (both (λ p q. maybe_place p ++ q) (sym c.in-Slice.a-is) (both (λ p q. maybe_place p ++ maybe_place q) (sym c.in-Slice.b-is) (sym c.in-Slice.c-is)))) (ap expr_layer (expr.outs-Slice c.slice.new.x c.slice.new.a c.slice.new.b c.slice.new.c)) c.slice.ensures.calls
+    writes_at g.F.FnMut (ap children c.in-Slice.is ∙ ap expr_layer (expr.outs-Slice c.in-Slice.x c.in-Slice.a c.in-Slice.b c.in-Slice.c) ∙ ap₂ (λ p q. p.value ∷ q) (sym c.in-Slice.x-is) (ap₂ (λ p q. maybe_place p ++ q) (sym c.in-Slice.a-is) (ap₂ (λ p q. maybe_place p ++ maybe_place q) (sym c.in-Slice.b-is) (sym c.in-Slice.c-is)))) (ap expr_layer (expr.outs-Slice c.slice.new.x c.slice.new.a c.slice.new.b c.slice.new.c)) c.slice.ensures.calls
 
 pub returns-in-Slice-clause-kept : goal.returns-in-Slice-clause-kept
 returns-in-Slice-clause-kept g c =
@@ -145,7 +145,7 @@ returns-in-Slice-clause-kept g c =
 
 pub returns-in-Op-clause-calls : goal.returns-in-Op-clause-calls
 returns-in-Op-clause-calls g c =
-    writes_at g.F.FnMut (ap children c.in-Op.is ∙ ap expr_layer (expr.outs-Op c.in-Op.x c.in-Op.op c.in-Op.y) ∙ both (λ p q. p.value ∷ q.value ∷ []) (sym c.in-Op.x-is) (sym c.in-Op.y-is)) (ap expr_layer (expr.outs-Op c.around.new.x c.around.new.other c.around.new.y)) c.around.ensures.calls
+    writes_at g.F.FnMut (ap children c.in-Op.is ∙ ap expr_layer (expr.outs-Op c.in-Op.x c.in-Op.op c.in-Op.y) ∙ ap₂ (λ p q. p.value ∷ q.value ∷ []) (sym c.in-Op.x-is) (sym c.in-Op.y-is)) (ap expr_layer (expr.outs-Op c.around.new.x c.around.new.other c.around.new.y)) c.around.ensures.calls
 
 pub returns-in-Op-clause-kept : goal.returns-in-Op-clause-kept
 returns-in-Op-clause-kept g c =
@@ -153,7 +153,7 @@ returns-in-Op-clause-kept g c =
 
 pub returns-in-ListComprehension-clause-calls : goal.returns-in-ListComprehension-clause-calls
 returns-in-ListComprehension-clause-calls g c =
-    writes_at g.F.FnMut (ap children c.in-ListComprehension.is ∙ ap expr_layer (expr.outs-ListComprehension c.in-ListComprehension.x c.in-ListComprehension.first c.in-ListComprehension.rest) ∙ both (λ p q. for_clause_places p.value ++ q) (sym c.in-ListComprehension.first-is) (both (λ q r. flat_map clause_places q.items ++ r.value ∷ []) (sym c.in-ListComprehension.rest-is) (sym c.in-ListComprehension.x-is))) (ap expr_layer (expr.outs-ListComprehension c.listed.new.x c.listed.new.first c.listed.new.rest)) c.listed.ensures.calls
+    writes_at g.F.FnMut (ap children c.in-ListComprehension.is ∙ ap expr_layer (expr.outs-ListComprehension c.in-ListComprehension.x c.in-ListComprehension.first c.in-ListComprehension.rest) ∙ ap₂ (λ p q. for_clause_places p.value ++ q) (sym c.in-ListComprehension.first-is) (ap₂ (λ q r. flat_map clause_places q.items ++ r.value ∷ []) (sym c.in-ListComprehension.rest-is) (sym c.in-ListComprehension.x-is))) (ap expr_layer (expr.outs-ListComprehension c.listed.new.x c.listed.new.first c.listed.new.rest)) c.listed.ensures.calls
 
 pub returns-in-ListComprehension-clause-kept : goal.returns-in-ListComprehension-clause-kept
 returns-in-ListComprehension-clause-kept g c =
@@ -161,7 +161,7 @@ returns-in-ListComprehension-clause-kept g c =
 
 pub returns-in-DictComprehension-clause-calls : goal.returns-in-DictComprehension-clause-calls
 returns-in-DictComprehension-clause-calls g c =
-    writes_at g.F.FnMut (ap children c.in-DictComprehension.is ∙ ap expr_layer (expr.outs-DictComprehension c.in-DictComprehension.x c.in-DictComprehension.first c.in-DictComprehension.rest) ∙ both (λ p q. for_clause_places p.value ++ q) (sym c.in-DictComprehension.first-is) (both (λ q r. flat_map clause_places q.items ++ r.value.0 ∷ r.value.1 ∷ []) (sym c.in-DictComprehension.rest-is) (sym c.in-DictComprehension.x-is))) (ap expr_layer (expr.outs-DictComprehension c.mapped.new.x c.mapped.new.first c.mapped.new.rest)) c.mapped.ensures.calls
+    writes_at g.F.FnMut (ap children c.in-DictComprehension.is ∙ ap expr_layer (expr.outs-DictComprehension c.in-DictComprehension.x c.in-DictComprehension.first c.in-DictComprehension.rest) ∙ ap₂ (λ p q. for_clause_places p.value ++ q) (sym c.in-DictComprehension.first-is) (ap₂ (λ q r. flat_map clause_places q.items ++ r.value.0 ∷ r.value.1 ∷ []) (sym c.in-DictComprehension.rest-is) (sym c.in-DictComprehension.x-is))) (ap expr_layer (expr.outs-DictComprehension c.mapped.new.x c.mapped.new.first c.mapped.new.rest)) c.mapped.ensures.calls
 
 pub returns-in-DictComprehension-clause-kept : goal.returns-in-DictComprehension-clause-kept
 returns-in-DictComprehension-clause-kept g c =
