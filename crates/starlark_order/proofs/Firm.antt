@@ -1,5 +1,5 @@
 -- Each item that a step gives has bytes, but for layout.
-use Rattle.std.proofs.Common.{ℕ, ◌<◌, ◌+◌, true, false, List, [], ◌∷◌, ◌++◌, length, take, true≢false, arith, zero, suc}
+use Rattle.std.proofs.Common.{ℕ, ◌<◌, ◌+◌, List, [], ◌∷◌, ◌++◌, length, take, true≢false, arith, zero, suc}
 use Rattle.starlark_lexer.specs.Items.{Lexeme, Item, item, Lexed, dedents, fstring_start, fstring_text, fstring_end}
 use Rattle.starlark_lexer.specs.Literals.{quotes, value}
 use Rattle.starlark_lexer.specs.Lex.{Past, Move, Step, Lex, on, over, start, goes_on, is_over}
