@@ -1,16 +1,8 @@
 -- What is found, one behind the other.
-use Rattle.std.proofs.Common.{◌≡◌, sym, ap, ◌∙◌, List, [], ◌∷◌, ◌++◌, append_assoc, Result, Ok, Err, OnOk, ℕ, ◌+◌, ◌<◌, length, take, get_or}
-use Rattle.std.proofs.lemmas.List.{take_more}
-use Rattle.std.proofs.lemmas.List.Sums.{fold-append}
+use Rattle.std.proofs.Common.{◌≡◌, ap, ◌∙◌, List, ◌++◌, append_assoc, Result, Ok, Err, OnOk}
 use Rattle.starlark_place.specs.declared.pos.Spanned.{Spanned}
-use Rattle.starlark_lexer.specs.declared.dialect.Dialect.{Dialect}
-use Rattle.starlark_ast.specs.Tree as t
-use Rattle.starlark_ast.specs.declared.ast.StmtP.{StmtP}
-use Rattle.starlark_ast.specs.StatementViews.{statements_of}
-use Rattle.starlark_ast.specs.View.{stmt_at}
 use Rattle.starlark_rulebook.specs.declared.rule.Rule.{Rule}
 use Rattle.starlark_rulebook.specs.Found.{Adds, findings}
-use Rattle.starlark_rulebook.specs.Late.{Standing, statement_rules, sequence_rules}
 use Rattle.starlark_rulebook.specs.Rules.{Finding}
 
 pub adds_as : {before after : List (Spanned Rule)} (found other : List Finding) → found ≡ other → Adds before found after → Adds before other after
@@ -28,7 +20,3 @@ ok_as before after found other (Err x) e h = h
 pub ok_then : {A E : Type 0} {before between : List (Spanned Rule)} (after : List (Spanned Rule)) (first then_found whole : List Finding) (r : Result A E) → Adds before first between → OnOk r (Adds between then_found after) → first ++ then_found ≡ whole → OnOk r (Adds before whole after)
 ok_then after first then_found whole (Ok a) h k e = adds_as (first ++ then_found) whole e (adds_then first then_found h k)
 ok_then after first then_found whole (Err x) h k e = k
-
-module _ {P L I A D T : Type 0} where
-  pub rules_more : (d : Dialect) (p : Standing) (xs : List (Spanned (StmtP P L I A D T))) (i : ℕ) (x : Spanned (StmtP P L I A D T)) → i < length xs → x ≡ get_or xs i x → sequence_rules d p (statements_of (take i xs)) ++ statement_rules d p (stmt_at x) ≡ sequence_rules d p (statements_of (take (i + 1) xs))
-  rules_more d p xs i x below is = sym (ap (λ ys. sequence_rules d p (statements_of ys)) (take_more xs i x below) ∙ ap (sequence_rules d p) (fold-append (λ ss y. t.add_statement ss (stmt_at y)) t.no_statements (take i xs) (get_or xs i x ∷ [])) ∙ ap (λ y. sequence_rules d p (statements_of (take i xs)) ++ statement_rules d p (stmt_at y)) (sym is))

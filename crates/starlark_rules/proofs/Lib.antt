@@ -1,11 +1,11 @@
 pub mod Adding
 mod Examples
-pub mod Nodes
 pub mod Prefixes
 pub mod Converting
 pub mod Within
 pub mod Unpacking
 pub mod ParameterLists
+pub mod StatementLevels
 pub mod Forms
 pub mod Misfits
 pub mod Places

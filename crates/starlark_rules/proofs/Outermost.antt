@@ -22,7 +22,8 @@ use Rattle.starlark_ast.specs.declared.ast.StmtP.TheOpen as stmt
 use Rattle.starlark_ast.specs.declared.ast.StmtP.TheVariants as variant
 use Rattle.starlark_rulebook.specs.Rules.{Finding}
 use Rattle.starlark_rulebook.specs.Late.{expr_rules, member_rules, annotation_rules, some_rules, expressions_rules, inner_rules}
-use Rattle.starlark_rules.proofs.Nodes.{nodes, all_nodes}
+use Rattle.starlark_visit.specs.Sizes.{statement_size, sequence_size}
+use Rattle.starlark_visit.proofs.SmallerStatements.{more_statements}
 use Rattle.starlark_rules.proofs.Targets.{all_rules, target_level, parameters_level, boxed_type_level}
 
 -- two lists that are equal part by part
@@ -75,16 +76,11 @@ module _ {P L I A D T : Type 0} where
       para-roll-StmtP P L I A D T _ _ _ inner_layer inner_def inner_for (stmt.Def x)
       ∙ ap (para-DefP P L I A D T _ _ _ inner_layer inner_def inner_for) (sym (roll-out-DefP P L I A D T x)) ∙ para-roll-DefP P L I A D T _ _ _ inner_layer inner_def inner_for (out-DefP P L I A D T x)
 
-  -- statements at the end add to what is there
-  grown : (ss : Sequence) (xs : List (S P L I A D T)) → all_nodes ss ≤ all_nodes (fold (λ rs y. t.add_statement rs (stmt_at y)) ss xs)
-  grown ss [] = omega arith
-  grown ss (x ∷ xs) = omega (arith, grown (t.add_statement ss (stmt_at x)) xs)
-
   -- if the law holds of each statement that is no larger than all, then it holds of all
-  sequence_level : (d : Dialect) (ss : Sequence) (xs : List (S P L I A D T)) → ((x : S P L I A D T) → nodes (stmt_at x) ≤ all_nodes (fold (λ rs y. t.add_statement rs (stmt_at y)) ss xs) → all_rules d (outer_exprs x.node) ≡ expressions_rules d (stmt_at x)) → inner_rules d ss ++ all_rules d (flat_map (λ x. outer_exprs x.node) xs) ≡ inner_rules d (fold (λ rs y. t.add_statement rs (stmt_at y)) ss xs)
+  sequence_level : (d : Dialect) (ss : Sequence) (xs : List (S P L I A D T)) → ((x : S P L I A D T) → statement_size (stmt_at x) ≤ sequence_size (fold (λ rs y. t.add_statement rs (stmt_at y)) ss xs) → all_rules d (outer_exprs x.node) ≡ expressions_rules d (stmt_at x)) → inner_rules d ss ++ all_rules d (flat_map (λ x. outer_exprs x.node) xs) ≡ inner_rules d (fold (λ rs y. t.add_statement rs (stmt_at y)) ss xs)
   sequence_level d ss [] each = append-nil (inner_rules d ss)
   sequence_level d ss (x ∷ xs) each =
-      let here : all_rules d (outer_exprs x.node) ≡ expressions_rules d (stmt_at x) = each x (omega (arith, grown (t.add_statement ss (stmt_at x)) xs)) in
+      let here : all_rules d (outer_exprs x.node) ≡ expressions_rules d (stmt_at x) = each x (omega (arith, more_statements (t.add_statement ss (stmt_at x)) xs)) in
       let rest = flat_map (λ y. outer_exprs y.node) xs in
       ap (λ q. inner_rules d ss ++ q) (split d (outer_exprs x.node) rest ∙ ap (λ q. q ++ all_rules d rest) here)
       ∙ sym (append_assoc (inner_rules d ss) (expressions_rules d (stmt_at x)) (all_rules d rest))
@@ -104,7 +100,7 @@ module _ {P L I A D T : Type 0} where
   plain_level d l s made is view e = layer_level d l s [] made is view (append-nil (all_rules d (exprs_layer l)) ∙ e)
 
   -- the law at a layer, where it holds of smaller statements
-  stmt_step : (n : ℕ) (d : Dialect) → ((x : S P L I A D T) → nodes (stmt_at x) < n → all_rules d (outer_exprs x.node) ≡ expressions_rules d (stmt_at x)) → (l : StmtP-F P L I A D T (StmtP P L I A D T) (DefP P L I A D T) (ForP P L I A D T)) (s : Extent) → nodes (stmt_view (roll-StmtP P L I A D T l) s) < suc n → all_rules d (outer_exprs (roll-StmtP P L I A D T l)) ≡ expressions_rules d (stmt_view (roll-StmtP P L I A D T l) s)
+  stmt_step : (n : ℕ) (d : Dialect) → ((x : S P L I A D T) → statement_size (stmt_at x) < n → all_rules d (outer_exprs x.node) ≡ expressions_rules d (stmt_at x)) → (l : StmtP-F P L I A D T (StmtP P L I A D T) (DefP P L I A D T) (ForP P L I A D T)) (s : Extent) → statement_size (stmt_view (roll-StmtP P L I A D T l) s) < suc n → all_rules d (outer_exprs (roll-StmtP P L I A D T l)) ≡ expressions_rules d (stmt_view (roll-StmtP P L I A D T l) s)
   stmt_step n d smaller stmt.Break s few = plain_level d stmt.Break s (t.break s) (para-roll-StmtP P L I A D T _ _ _ inner_layer inner_def inner_for stmt.Break) (ap (λ q. stmt_view q s) variant.rolls-Break ∙ stmt_view-Break P L I A D T s) refl
   stmt_step n d smaller stmt.Continue s few = plain_level d stmt.Continue s (t.continue s) (para-roll-StmtP P L I A D T _ _ _ inner_layer inner_def inner_for stmt.Continue) (ap (λ q. stmt_view q s) variant.rolls-Continue ∙ stmt_view-Continue P L I A D T s) refl
   stmt_step n d smaller stmt.Pass s few = plain_level d stmt.Pass s (t.pass s) (para-roll-StmtP P L I A D T _ _ _ inner_layer inner_def inner_for stmt.Pass) (ap (λ q. stmt_view q s) variant.rolls-Pass ∙ stmt_view-Pass P L I A D T s) refl
@@ -115,36 +111,36 @@ module _ {P L I A D T : Type 0} where
   stmt_step n d smaller (stmt.Load x) s few = plain_level d (stmt.Load x) s (_) (para-roll-StmtP P L I A D T _ _ _ inner_layer inner_def inner_for (stmt.Load x)) (ap (λ q. stmt_view q s) (variant.rolls-Load x) ∙ stmt_view-Load x s) refl
   stmt_step n d smaller (stmt.Statements xs) s few =
       let view : stmt_view (roll-StmtP P L I A D T (stmt.Statements xs)) s ≡ t.block (statements_of xs.items) s = ap (λ q. stmt_view q s) (variant.rolls-Statements xs) ∙ stmt_view-Statements xs s in
-      let small : all_nodes (statements_of xs.items) < n = omega (arith, few, ap nodes view) in
+      let small : sequence_size (statements_of xs.items) < n = omega (arith, few, ap statement_size view) in
       layer_level d (stmt.Statements xs) s (flat_map (λ x. outer_exprs x.node) xs.items) (t.block (statements_of xs.items) s) (para-roll-StmtP P L I A D T _ _ _ inner_layer inner_def inner_for (stmt.Statements xs) ∙ flat_map-map _ _ xs.items) view
       (sequence_level d t.no_statements xs.items (λ x less. smaller x (omega (arith, small, less))))
   stmt_step n d smaller (stmt.If c x) s few =
       let view : stmt_view (roll-StmtP P L I A D T (stmt.If c x)) s ≡ t.when (expr_at c) (stmt_at x.value) s = ap (λ q. stmt_view q s) (variant.rolls-If c x) ∙ stmt_view-If c x s in
       layer_level d (stmt.If c x) s (outer_exprs x.value.node) (t.when (expr_at c) (stmt_at x.value) s) (para-roll-StmtP P L I A D T _ _ _ inner_layer inner_def inner_for (stmt.If c x)) view
-      (both (one d c) (smaller x.value (omega (arith, few, ap nodes view))))
+      (both (one d c) (smaller x.value (omega (arith, few, ap statement_size view))))
   stmt_step n d smaller (stmt.IfElse c x) s few =
       let view : stmt_view (roll-StmtP P L I A D T (stmt.IfElse c x)) s ≡ t.either (expr_at c) (stmt_at x.value.0) (stmt_at x.value.1) s = ap (λ q. stmt_view q s) (variant.rolls-IfElse c x) ∙ stmt_view-IfElse c x s in
-      let first = smaller x.value.0 (omega (arith, few, ap nodes view)) in
-      let second = smaller x.value.1 (omega (arith, few, ap nodes view)) in
+      let first = smaller x.value.0 (omega (arith, few, ap statement_size view)) in
+      let second = smaller x.value.1 (omega (arith, few, ap statement_size view)) in
       layer_level d (stmt.IfElse c x) s (outer_exprs x.value.0.node ++ outer_exprs x.value.1.node) (t.either (expr_at c) (stmt_at x.value.0) (stmt_at x.value.1) s) (para-roll-StmtP P L I A D T _ _ _ inner_layer inner_def inner_for (stmt.IfElse c x)) view
       (both (one d c) (split d (outer_exprs x.value.0.node) (outer_exprs x.value.1.node) ∙ both first second)
       ∙ sym (append_assoc (expr_rules d (expr_at c)) (expressions_rules d (stmt_at x.value.0)) (expressions_rules d (stmt_at x.value.1))))
   stmt_step n d smaller (stmt.For x) s few =
       let view : stmt_view (roll-StmtP P L I A D T (stmt.For x)) s ≡ t.repeat (target_at x.var) (expr_at x.over) (stmt_at x.body.value) s = ap (λ q. stmt_view q s) (variant.rolls-For x) ∙ stmt_view-For x s ∙ view-for x s in
       layer_level d (stmt.For x) s (outer_exprs x.body.value.node) (t.repeat (target_at x.var) (expr_at x.over) (stmt_at x.body.value) s) (inner-For x) view
-      (both (for_level d x) (smaller x.body.value (omega (arith, few, ap nodes view))))
+      (both (for_level d x) (smaller x.body.value (omega (arith, few, ap statement_size view))))
   stmt_step n d smaller (stmt.Def x) s few =
       let view : stmt_view (roll-StmtP P L I A D T (stmt.Def x)) s ≡ t.define (ident_at x.name) (members parameter_at x.params.items) (boxed_type x.return_type) (stmt_at x.body.value) s = ap (λ q. stmt_view q s) (variant.rolls-Def x) ∙ stmt_view-Def x s ∙ view-def x s in
       layer_level d (stmt.Def x) s (outer_exprs x.body.value.node) (t.define (ident_at x.name) (members parameter_at x.params.items) (boxed_type x.return_type) (stmt_at x.body.value) s) (inner-Def x) view
-      (both (def_level d x) (smaller x.body.value (omega (arith, few, ap nodes view))))
+      (both (def_level d x) (smaller x.body.value (omega (arith, few, ap statement_size view))))
 
   -- the same below a bound
-  stmt_below : (n : ℕ) (d : Dialect) (x : S P L I A D T) → nodes (stmt_at x) < n → all_rules d (outer_exprs x.node) ≡ expressions_rules d (stmt_at x)
+  stmt_below : (n : ℕ) (d : Dialect) (x : S P L I A D T) → statement_size (stmt_at x) < n → all_rules d (outer_exprs x.node) ≡ expressions_rules d (stmt_at x)
   stmt_below zero d x few = absurd (omega (arith, few))
   stmt_below (suc n) d x few =
       let is = roll-out-StmtP P L I A D T x.node in
-      ap (λ q. all_rules d (outer_exprs q)) (sym is) ∙ stmt_step n d (stmt_below n d) (out-StmtP P L I A D T x.node) x.span (subst (λ q. nodes (stmt_view q x.span) < suc n) (sym is) few) ∙ ap (λ q. expressions_rules d (stmt_view q x.span)) is
+      ap (λ q. all_rules d (outer_exprs q)) (sym is) ∙ stmt_step n d (stmt_below n d) (out-StmtP P L I A D T x.node) x.span (subst (λ q. statement_size (stmt_view q x.span) < suc n) (sym is) few) ∙ ap (λ q. expressions_rules d (stmt_view q x.span)) is
 
   -- The outermost expressions in a statement break what those in it break.
   pub stmt_level : (d : Dialect) (x : S P L I A D T) → flat_map (λ c. expr_rules d (expr_at c)) (outer_exprs x.node) ≡ expressions_rules d (stmt_at x)
-  stmt_level d x = stmt_below (suc (nodes (stmt_at x))) d x (omega arith)
+  stmt_level d x = stmt_below (suc (statement_size (stmt_at x))) d x (omega arith)

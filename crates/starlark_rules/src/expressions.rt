@@ -10,7 +10,7 @@ ghost use Rattle.starlark_rulebook.specs.Types as types;
 ghost use Rattle.starlark_rules.specs.Levels.{own_rules};
 ghost use Rattle.starlark_visit.specs.Sizes.{size};
 
-use crate::late::{add_unless, parameter_rules};
+use crate::late::{Finder, add_unless, parameter_rules};
 use starlark_ast::ast::{AstExprP, AstLiteral, AstPayload, ExprP};
 use starlark_lexer::dialect::{Dialect, DialectTypes};
 use starlark_place::pos::{Span, Spanned};
@@ -33,13 +33,6 @@ trait Finds<P: AstPayload> {
         ensures found { OnOk result (found self.new ≡ found self.old ++ own_rules (dialect self.old) (expr_at x.now)) }
         ensures dialect { dialect self.new ≡ dialect self.old }
         ensures name { name self.new ≡ name self.old };
-}
-
-/// What is found so far, in a dialect.
-#[derive(Drop)]
-struct Finder<'a> {
-    out: &'a mut Vec<Spanned<Rule>>,
-    dialect: &'a Dialect,
 }
 
 impl<'a, P: AstPayload> Finds<P> for Finder<'a> {

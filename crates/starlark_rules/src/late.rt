@@ -1,125 +1,24 @@
-//! The rules that count last, on a whole tree.
+//! The rules that count last: what parameters break, and what is found so far.
 
 ghost use Rattle.std.specs.Prelude.{◌≡◌, ◌∷◌, [], OnOk, if◌then◌else◌};
-ghost use Rattle.starlark_ast.specs.View.{members, parameter_at, stmt_at};
+ghost use Rattle.starlark_ast.specs.View.{members, parameter_at};
 ghost use Rattle.starlark_rulebook.specs.Found.{Adds};
 ghost use Rattle.starlark_rulebook.specs.Late as late;
 ghost use Rattle.starlark_rulebook.specs.Rules.{breaks, listed};
-ghost use Rattle.starlark_rules.specs.Standings.{standing_of};
 ghost use Rattle.starlark_rulebook.specs.View.{maybe_finding, rule_view};
 
 use crate::parameters::parameter_fault;
-use starlark_ast::ast::{AstParameterP, AstPayload, AstStmtP, ParameterP, StmtP};
+use starlark_ast::ast::{AstParameterP, AstPayload, ParameterP};
 use starlark_lexer::dialect::Dialect;
 use starlark_place::pos::{Span, Spanned};
 use starlark_rulebook::rule::Rule;
 use std::alloc::AllocError;
 
-/// Where a statement stands.
-#[derive(Clone, Copy)]
-pub(crate) struct Standing {
-    /// In no other one but a list.
-    pub(crate) at_top: bool,
-    /// In a `for` of the same `def`.
-    pub(crate) in_for: bool,
-    /// In a `def`.
-    pub(crate) in_def: bool,
-}
-
-impl Standing {
-    /// Whether a `for` or an `if` may stand there.
-    fn may_nest(self, dialect: &Dialect) -> bool
-        ensures { result ≡ late.may_nest dialect.now (standing_of self) }
-    {
-        !self.at_top || dialect.enable_top_level_stmt
-    }
-
-    /// The body of an `if` there.
-    fn in_if_body(self) -> Standing
-        ensures { standing_of result ≡ late.in_if_body (standing_of self) }
-    {
-        Standing {
-            at_top: false,
-            in_for: self.in_for,
-            in_def: self.in_def,
-        }
-    }
-
-    /// The body of a `for` there.
-    fn in_for_body(self) -> Standing
-        ensures { standing_of result ≡ late.in_for_body (standing_of self) }
-    {
-        Standing {
-            at_top: false,
-            in_for: true,
-            in_def: self.in_def,
-        }
-    }
-}
-
-/// The body of a `def`.
-fn in_def_body() -> Standing
-    ensures { standing_of result ≡ late.in_def_body }
-{
-    Standing {
-        at_top: false,
-        in_for: false,
-        in_def: true,
-    }
-}
-
-/// Adds what a statement and those within it break, parents first.
-pub(crate) fn statement_rules<P: AstPayload>(
-    out: &mut Vec<Spanned<Rule>>,
-    dialect: &Dialect,
-    place: Standing,
-    x: &AstStmtP<P>,
-) -> Result<(), AllocError>
-    ensures { OnOk result (Adds out.old.items (late.statement_rules dialect.now (standing_of place) (stmt_at x.now)) out.new.items) }
-{
-    match &x.node {
-        StmtP::Break => add_unless(out, place.in_for, Rule::BreakOutsideFor, x.span),
-        StmtP::Continue => add_unless(out, place.in_for, Rule::ContinueOutsideFor, x.span),
-        StmtP::Return(_) => add_unless(out, place.in_def, Rule::ReturnOutsideDef, x.span),
-        StmtP::Load(_) => {
-            add_unless(out, place.at_top, Rule::LoadNotTop, x.span)?;
-            add_unless(out, dialect.enable_load, Rule::LoadDisabled, x.span)
-        }
-        StmtP::If(_, body) => {
-            if !place.may_nest(dialect) {
-                return add(out, Rule::IfOutsideDef, x.span);
-            }
-            statement_rules(out, dialect, place.in_if_body(), body)
-        }
-        StmtP::IfElse(_, bodies) => {
-            if !place.may_nest(dialect) {
-                return add(out, Rule::IfOutsideDef, x.span);
-            }
-            statement_rules(out, dialect, place.in_if_body(), &bodies.0)?;
-            statement_rules(out, dialect, place.in_if_body(), &bodies.1)
-        }
-        StmtP::For(inner) => {
-            if !place.may_nest(dialect) {
-                return add(out, Rule::ForOutsideDef, x.span);
-            }
-            statement_rules(out, dialect, place.in_for_body(), &inner.body)
-        }
-        StmtP::Def(inner) => {
-            add_unless(out, dialect.enable_def, Rule::DefDisabled, x.span)?;
-            parameter_rules(out, dialect, &inner.params)?;
-            statement_rules(out, dialect, in_def_body(), &inner.body)
-        }
-        StmtP::Statements(xs) => {
-            for x in xs {
-                statement_rules(out, dialect, place, x)?;
-            }
-            Ok(())
-        }
-        StmtP::Pass => Ok(()),
-        StmtP::Expression(_) => Ok(()),
-        StmtP::Assign(_) => Ok(()),
-        StmtP::AssignModify(_, _, _) => Ok(()),
-    }
+/// What is found so far, in a dialect.
+#[derive(Drop)]
+pub(crate) struct Finder<'a> {
+    pub(crate) out: &'a mut Vec<Spanned<Rule>>,
+    pub(crate) dialect: &'a Dialect,
 }
 
 /// Adds what parameters break: each `*` and then each `/` where they are off, then the first fault.

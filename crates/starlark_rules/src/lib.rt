@@ -11,6 +11,7 @@ pub mod kept;
 mod kept_expressions;
 mod late;
 pub mod parameters;
+mod statements;
 pub mod tree;
 pub mod type_expr;
 pub mod types;

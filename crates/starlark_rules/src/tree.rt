@@ -6,7 +6,7 @@ ghost use Rattle.starlark_rulebook.specs.Found.{Adds, findings};
 ghost use Rattle.starlark_rulebook.specs.Late as late;
 
 use crate::expressions::expression_rules;
-use crate::late::{Standing, statement_rules};
+use crate::statements::{Standing, statement_rules};
 use starlark_ast::ast::{AstExprP, AstPayload, AstStmtP};
 use starlark_lexer::dialect::Dialect;
 use starlark_place::pos::Spanned;

@@ -6,7 +6,9 @@ pub mod Lifted
 pub mod Members
 pub mod Naming
 pub mod Nested
+pub mod Readied
 pub mod Smaller
+pub mod SmallerStatements
 pub mod Steps
 pub mod Taking
 pub mod Until

@@ -1,5 +1,6 @@
 pub mod Idents
 pub mod Listed
+pub mod Ready
 pub mod Sizes
 pub mod Steps
 pub mod Takes

@@ -1,7 +1,7 @@
--- How large an expression is, and what stands in it.
+-- How large an expression is, and what stands in it. Of statements, how many hold others.
 use Rattle.std.specs.Prelude.{ℕ, suc, ◌+◌}
 use Rattle.starlark_ast.specs.Tree as t
-use Rattle.starlark_ast.specs.Tree.{Expr, Member, Members, Bound, Annotation, Subscript, Clause, Clauses}
+use Rattle.starlark_ast.specs.Tree.{Expr, Member, Members, Bound, Annotation, Subscript, Clause, Clauses, Statement, Sequence}
 
 abbrev mutual
   pub size : Expr → ℕ
@@ -54,3 +54,16 @@ abbrev mutual
   pub clause_sizes : Clauses → ℕ
   clause_sizes t.no_clauses = 0
   clause_sizes (t.and_clause cs c) = suc (suc (clause_sizes cs + clause_size c))
+
+abbrev mutual
+  pub statement_size : Statement → ℕ
+  statement_size (t.when x a s) = suc (statement_size a)
+  statement_size (t.either x a b s) = suc (statement_size a + statement_size b)
+  statement_size (t.repeat x y a s) = suc (statement_size a)
+  statement_size (t.define n ps a b s) = suc (statement_size b)
+  statement_size (t.block ss s) = suc (sequence_size ss)
+  statement_size a = 0
+
+  pub sequence_size : Sequence → ℕ
+  sequence_size t.no_statements = 0
+  sequence_size (t.add_statement ss a) = sequence_size ss + statement_size a

@@ -4,24 +4,24 @@ ghost use Rattle.std.specs.Prelude.{◌≡◌, List, Result};
 ghost use Rattle.starlark_ast.specs.Calls.{lent, CalledOn, CallsEach, StopsAtErr};
 ghost use Rattle.starlark_ast.specs.Statements.{assign_places, def_places, exprs_below, for_places, maybe_here, maybe_type_here, outer_exprs, stmts_below};
 ghost use Rattle.starlark_visit.specs.Listed.{listed};
+ghost use Rattle.starlark_visit.specs.Ready.{ReadyFor};
 ghost use Rattle.starlark_visit.specs.Steps.{StepsUntil};
-ghost use Rattle.starlark_visit.specs.Takes.{Takes};
+ghost use Rattle.starlark_visit.specs.Takes.{MayCall, Takes};
 
 use crate::visit::{VisitExpr, boxed, each, maybe_type, one, parameters, target, two};
 use starlark_ast::ast::{AssignP, AstExprP, AstPayload, AstStmtP, AstTypeExprP, DefP, ForP, StmtP};
 
 /// What is lent statements, one at a time.
 pub trait StmtVisitor<S, E> {
-    /// What holds before each call, and after it.
-    ghost ready: { Self → Type 0 };
+    /// What holds before a call at a statement.
+    ghost ready: { Self → S → Type 0 };
 
     /// What a call at a statement may answer, and what it may leave of the visitor.
     ghost leaves: { Self → S → Result (Unit {0}) E → Self → Type 0 };
 
     fn at(&mut self, x: &S) -> Result<(), E>
-        requires { ready self.old }
-        ensures called { leaves self.old x.now result self.new }
-        ensures ready { ready self.new };
+        requires { ready self.old x.now }
+        ensures { leaves self.old x.now result self.new };
 }
 
 /// What has statements right below it, in an order of its own (docs/LANGUAGE.md, Orders).
@@ -29,18 +29,27 @@ pub trait VisitStmt<S> {
     ghost stmts: { Self → List S };
 
     /// Lends each of them to a visitor for the time of a call, up to the first `Err`, which is the answer. It takes no memory.
+    /// The visitor has to be ready for these statements alone, in turn.
     fn lend_stmts<E, V: StmtVisitor<S, E>>(&self, v: &mut V) -> Result<(), E>
-        requires { V.ready v.old }
-        ensures calls { StepsUntil V.leaves v.old (stmts self.now) result v.new }
-        ensures ready { V.ready v.new };
+        requires { ReadyFor V.ready V.leaves v.old (stmts self.now) }
+        ensures { StepsUntil V.leaves v.old (stmts self.now) result v.new };
 
-    /// The same with a closure.
+    /// The same with a closure. It has to be callable at these statements alone, in turn: so it may ask that what it is lent is
+    /// smaller than what stands around it, and a function that goes down a tree may stand in it.
+    final fn lend_stmts_to<E, F: FnMut(&S) -> Result<(), E>>(&self, f: &mut F) -> Result<(), E>
+        requires { Takes lent F.FnMut f.old (stmts self.now) }
+        ensures { StopsAtErr lent F.FnMut f.old (stmts self.now) result f.new }
+    {
+        lend_until(self, f)
+    }
+
+    /// The same with a closure that may always be called.
     final fn visit_stmt_result<E, F: FnMut(&S) -> Result<(), E>>(&self, f: &mut F) -> Result<(), E>
         requires { F.IsAlwaysCallable f.old }
         ensures calls { StopsAtErr lent F.FnMut f.old (stmts self.now) result f.new }
         ensures callable { F.IsAlwaysCallable f.new }
     {
-        lend_until(self, f)
+        lend_always(self, f)
     }
 
     /// The same with a closure that always goes on.
@@ -60,7 +69,7 @@ struct Calls<'a, F> {
 }
 
 impl<'a, S, E, F: FnMut(&S) -> Result<(), E>> StmtVisitor<S, E> for Calls<'a, F> {
-    ghost ready = { λ s. F.IsAlwaysCallable s.f.now };
+    ghost ready = { λ s x. MayCall lent F.FnMut s.f.now x };
 
     ghost leaves = { λ s x r t. CalledOn lent F.FnMut s.f.now x r t.f.now × (t.f.ghost_name ≡ s.f.ghost_name) };
 
@@ -73,12 +82,22 @@ fn lend_until<S, L: VisitStmt<S>, E, F: FnMut(&S) -> Result<(), E>>(
     x: &L,
     f: &mut F,
 ) -> Result<(), E>
+    requires { Takes lent F.FnMut f.old (L.stmts x.now) }
+    ensures { StopsAtErr lent F.FnMut f.old (L.stmts x.now) result f.new }
+{
+    let mut v = Calls { f };
+    x.lend_stmts(&mut v)
+}
+
+fn lend_always<S, L: VisitStmt<S>, E, F: FnMut(&S) -> Result<(), E>>(
+    x: &L,
+    f: &mut F,
+) -> Result<(), E>
     requires { F.IsAlwaysCallable f.old }
     ensures calls { StopsAtErr lent F.FnMut f.old (L.stmts x.now) result f.new }
     ensures callable { F.IsAlwaysCallable f.new }
 {
-    let mut v = Calls { f };
-    x.lend_stmts(&mut v)
+    x.lend_stmts_to(f)
 }
 
 fn lend_each<S, L: VisitStmt<S>, F: FnMut(&S)>(x: &L, f: &mut F)
@@ -103,9 +122,8 @@ enum StmtsBelow<'a, S> {
 }
 
 fn all<S, E, F: FnMut(&S) -> Result<(), E>>(xs: StmtsBelow<'_, S>, f: &mut F) -> Result<(), E>
-    requires { F.IsAlwaysCallable f.old }
-    ensures calls { StopsAtErr lent F.FnMut f.old (listed xs.entry) result f.new }
-    ensures callable { F.IsAlwaysCallable f.new }
+    requires { Takes lent F.FnMut f.old (listed xs) }
+    ensures { StopsAtErr lent F.FnMut f.old (listed xs.entry) result f.new }
 {
     match xs {
         StmtsBelow::Empty => Ok(()),
@@ -116,14 +134,12 @@ fn all<S, E, F: FnMut(&S) -> Result<(), E>>(xs: StmtsBelow<'_, S>, f: &mut F) ->
 }
 
 fn lend_all<S, E, V: StmtVisitor<S, E>>(xs: StmtsBelow<'_, S>, v: &mut V) -> Result<(), E>
-    requires { V.ready v.old }
-    ensures calls { StepsUntil V.leaves v.old (listed xs.entry) result v.new }
-    ensures ready { V.ready v.new }
+    requires { ReadyFor V.ready V.leaves v.old (listed xs) }
+    ensures { StepsUntil V.leaves v.old (listed xs.entry) result v.new }
 {
     let mut go = |x: &S| -> Result<(), E>
-        requires { V.ready v.now }
-        ensures called { V.leaves v.entry.now x.now result v.exit.now }
-        ensures ready { V.ready v.exit.now }
+        requires { V.ready v.now x.now }
+        ensures { V.leaves v.entry.now x.now result v.exit.now }
     { v.at(x) };
     all(xs, &mut go)
 }

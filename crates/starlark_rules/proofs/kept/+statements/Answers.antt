@@ -7,14 +7,15 @@ use Rattle.starlark_rulebook.specs.Kept as kept
 use Rattle.starlark_rulebook.specs.Rules.{first_finding}
 use Rattle.starlark_rulebook.specs.View.{finding_of}
 use Rattle.starlark_rules.proofs.Firsts.{at_statement, given, past, past_statement, stays}
-use Rattle.starlark_rules.proofs.Nodes.{nodes, all_nodes, nodes_of_one}
+use Rattle.starlark_visit.specs.Sizes.{statement_size, sequence_size}
+use Rattle.starlark_visit.proofs.SmallerStatements.{one_of_statements}
 use Rattle.starlark_rules.proofs.kept.+statements.Goals as goal
 
 -- ---- several statements
 
 pub statements_fault-statement_fault-requires : goal.statements_fault-statement_fault-requires
 statements_fault-statement_fault-requires g n c κs within =
-    let one = nodes_of_one c.args.xs.now c.loop-x.x-index c.x-item.result c.loop-x-test.true c.x-item.is in
+    let one = one_of_statements c.args.xs.now c.loop-x.x-index c.x-item.result c.loop-x-test.true c.x-item.is in
     (omega (arith, one), within)
 
 pub statements_fault-returns-in-Some : goal.statements_fault-returns-in-Some
@@ -80,8 +81,8 @@ def_fault-returns g n c =
 pub statement_fault-statements_fault-requires : goal.statement_fault-statements_fault-requires
 statement_fault-statements_fault-requires g n c κs within =
     let s = c.args.x.now.span in
-    let up : nodes (stmt_at c.args.x.now) ≡ suc (all_nodes (statements_of c.in-Statements.xs.items)) = ap (λ y. nodes (stmt_view y s)) c.in-Statements.is ∙ ap nodes (stmt_view-Statements c.in-Statements.xs s) in
-    let here = ap (λ q. all_nodes (statements_of q)) c.deref-in-Statements.ensures.value in
+    let up : statement_size (stmt_at c.args.x.now) ≡ suc (sequence_size (statements_of c.in-Statements.xs.items)) = ap (λ y. statement_size (stmt_view y s)) c.in-Statements.is ∙ ap statement_size (stmt_view-Statements c.in-Statements.xs s) in
+    let here = ap (λ q. sequence_size (statements_of q)) c.deref-in-Statements.ensures.value in
     (omega (arith, up, here), within)
 
 pub statement_fault-returns-in-AssignModify : goal.statement_fault-returns-in-AssignModify
