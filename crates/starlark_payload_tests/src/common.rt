@@ -2,9 +2,10 @@
 
 ghost use Rattle.std.specs.Prelude.{◌≡◌};
 
+use crate::maker::Maker;
 use starlark_ast::ast::{AssignIdent, AssignIdentP, AstNoPayload, AstPayload, Ident, IdentP};
 use starlark_payload::payload_map::AstPayloadFunction;
-use std::alloc::{AllocError, Global};
+use std::process::Abort;
 
 /// Numbers as payloads.
 #[derive(Debug)]
@@ -79,12 +80,12 @@ impl AstPayloadFunction<AstNoPayload, Numbered> for Counter {
     }
 }
 
-pub(crate) fn read(alloc: Global, text: &str) -> Result<Ident, AllocError> {
-    let ident = String::from_str(alloc, text)?;
-    Ok(IdentP { ident, payload: () })
+pub(crate) fn read(m: &Maker<'_, impl Abort>, text: &str) -> Ident {
+    let ident = m.text(text);
+    IdentP { ident, payload: () }
 }
 
-pub(crate) fn assigned(alloc: Global, text: &str) -> Result<AssignIdent, AllocError> {
-    let ident = String::from_str(alloc, text)?;
-    Ok(AssignIdentP { ident, payload: () })
+pub(crate) fn assigned(m: &Maker<'_, impl Abort>, text: &str) -> AssignIdent {
+    let ident = m.text(text);
+    AssignIdentP { ident, payload: () }
 }

@@ -1,26 +1,25 @@
-//! Payload maps of expressions. Trees are forgotten in the end: how they are let go is proved anew in each
+//! Payload maps of expressions. Trees are left in the end: how they are let go is proved anew in each
 //! crate that does so.
 
 use crate::common::{Counter, Numbered, assigned, read};
+use crate::maker::{Maker, leave};
 use starlark_ast::ast::{AstExpr, AstExprP, Expr, ExprP, LambdaP, ParameterP};
 use starlark_ast::making::ToAst;
 use starlark_payload::placed_maps::ExprPExt;
-use std::alloc::{AllocError, Global};
-use std::mem;
-use std::test::Fail;
+use std::process::Abort;
 
 // `lambda x: y`
-fn lambda(alloc: Global) -> Result<AstExpr, AllocError> {
-    let param = ParameterP::Normal(assigned(alloc, "x")?.ast(11, 12), None, None).ast(11, 12);
-    let body = ExprP::Identifier(read(alloc, "y")?.ast(14, 15)).ast(14, 15);
-    let body = Box::new(alloc, body)?;
-    let params = vec![in alloc; param]?;
+fn lambda(m: &Maker<'_, impl Abort>) -> AstExpr {
+    let param = ParameterP::Normal(assigned(m, "x").ast(11, 12), None, None).ast(11, 12);
+    let body = ExprP::Identifier(read(m, "y").ast(14, 15)).ast(14, 15);
+    let body = m.boxed(body);
+    let params = m.one(param);
     let node: Expr = ExprP::Lambda(LambdaP {
         params,
         body,
         payload: (),
     });
-    Ok(node.ast(4, 15))
+    node.ast(4, 15)
 }
 
 // what the lambda's parameter, its body and itself were given
@@ -43,14 +42,14 @@ fn numbers_of_lambda(x: &AstExprP<Numbered>) -> u32 {
 }
 
 #[test]
-fn a_lambda(rt: HostRuntime) -> Result<(), Fail> {
+fn a_lambda(rt: HostRuntime) {
     let alloc = rt.alloc();
+    let m = &Maker::new(&rt, alloc);
     let mut counter = Counter::new();
-    let tree = lambda(alloc)?;
-    let tree: AstExprP<Numbered> = ExprPExt::into_map_payload(tree, alloc, &mut counter)?;
+    let tree = lambda(m);
+    let tree: AstExprP<Numbered> = m.made(ExprPExt::into_map_payload(tree, alloc, &mut counter));
     // the parameter 0, the body 1, the lambda 2
     assert_eq!(rt; numbers_of_lambda(&tree), 12);
     assert_eq!(rt; counter.next, 3);
-    mem::forget(tree);
-    Ok(())
+    leave(tree);
 }

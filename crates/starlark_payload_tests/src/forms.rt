@@ -1,6 +1,6 @@
 //! Payload maps of every form of a statement, an expression, a target, a parameter and a clause, and of arguments in calls:
 //! each is Ok, prints what the tree prints, and calls its function once for each payload. A row is a small text with the form
-//! and the number of payloads. Trees are forgotten in the end: how they are let go is proved anew in each crate that does so.
+//! and the number of payloads. Trees are left in the end: how they are let go is proved anew in each crate that does so.
 
 use crate::common::{Counter, Numbered};
 use crate::parsed::{clause, expression, parameter, printed, target, tree};

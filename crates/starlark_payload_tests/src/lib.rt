@@ -8,6 +8,8 @@ mod expressions;
 #[cfg(test)]
 mod forms;
 #[cfg(test)]
+mod maker;
+#[cfg(test)]
 mod maps;
 #[cfg(test)]
 mod parsed;

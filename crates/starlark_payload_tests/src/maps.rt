@@ -4,11 +4,13 @@ ghost use Rattle.std.specs.Prelude.{◌≡◌, ◌≤◌};
 ghost use Rattle.starlark_place.specs.Place.{extent};
 
 use crate::common::{Counter, Numbered, assigned, read};
-use starlark_ast::ast::{AssignIdentP, AstIdent, AstIdentP, Comma, IdentP, Load, LoadArgP, LoadP};
+use crate::maker::Maker;
+use starlark_ast::ast::{
+    AssignIdentP, AstAssignIdentP, AstIdent, AstIdentP, Comma, IdentP, Load, LoadArgP, LoadP,
+};
 use starlark_ast::making::ToAst;
 use starlark_payload::payload_map::{AssignIdentPExt, IdentPExt, IntoMapPayload};
 use starlark_place::pos::{Pos, Span};
-use std::test::Fail;
 
 fn span(begin: u32, end: u32) -> Span
     requires { begin ≤ end }
@@ -18,42 +20,47 @@ fn span(begin: u32, end: u32) -> Span
 }
 
 #[test]
-fn names(rt: HostRuntime) -> Result<(), Fail> {
+fn names(rt: HostRuntime) {
     let alloc = rt.alloc();
+    let m = &Maker::new(&rt, alloc);
     let mut counter = Counter::new();
-    let x: IdentP<Numbered> = read(alloc, "x")?.into_map_payload(alloc, &mut counter)?;
+    let x: IdentP<Numbered> = m.made(read(m, "x").into_map_payload(alloc, &mut counter));
     assert_eq!(rt; x.ident.as_str(), "x");
     assert_eq!(rt; x.payload, 0);
-    let y: AssignIdentP<Numbered> = assigned(alloc, "y")?.into_map_payload(alloc, &mut counter)?;
+    let y: AssignIdentP<Numbered> = m.made(assigned(m, "y").into_map_payload(alloc, &mut counter));
     assert_eq!(rt; y.ident.as_str(), "y");
     assert_eq!(rt; y.payload, 1);
-    let z: AstIdentP<Numbered> = read(alloc, "z")?
-        .ast(2, 3)
-        .into_map_payload(alloc, &mut counter)?;
+    let z: AstIdentP<Numbered> = m.made(
+        read(m, "z").ast(2, 3).into_map_payload(alloc, &mut counter),
+    );
     assert_eq!(rt; z.span, span(2, 3));
     assert_eq!(rt; z.node.payload, 2);
-    let w = assigned(alloc, "w")?.ast(4, 5);
-    let w = AssignIdentPExt::into_map_payload::<Numbered, Counter>(w, alloc, &mut counter)?;
+    let w = assigned(m, "w").ast(4, 5);
+    let w: AstAssignIdentP<Numbered> = m.made(AssignIdentPExt::into_map_payload(
+        w,
+        alloc,
+        &mut counter,
+    ));
     assert_eq!(rt; w.span, span(4, 5));
     assert_eq!(rt; w.node.payload, 3);
-    Ok(())
 }
 
 #[test]
-fn loads(rt: HostRuntime) -> Result<(), Fail> {
+fn loads(rt: HostRuntime) {
     let alloc = rt.alloc();
+    let m = &Maker::new(&rt, alloc);
     let arg = LoadArgP {
-        local: assigned(alloc, "a")?.ast(10, 13),
-        their: String::from_str(alloc, "a")?.ast(10, 13),
+        local: assigned(m, "a").ast(10, 13),
+        their: m.text("a").ast(10, 13),
         comma: Some(Comma.ast(13, 14)),
     };
     let load = Load {
-        module: String::from_str(alloc, "m")?.ast(5, 8),
-        args: vec![in alloc; arg]?,
+        module: m.text("m").ast(5, 8),
+        args: m.one(arg),
         payload: (),
     };
     let mut counter = Counter::new();
-    let load: LoadP<Numbered> = load.into_map_payload(alloc, &mut counter)?;
+    let load: LoadP<Numbered> = m.made(load.into_map_payload(alloc, &mut counter));
     assert!(rt; counter.is_of_m);
     assert_eq!(rt; counter.next, 2);
     assert_eq!(rt; load.payload, 0);
@@ -63,12 +70,11 @@ fn loads(rt: HostRuntime) -> Result<(), Fail> {
         assert!(rt; arg.comma.is_some());
     }
     let arg = LoadArgP {
-        local: assigned(alloc, "b")?.ast(0, 1),
-        their: String::from_str(alloc, "c")?.ast(2, 3),
+        local: assigned(m, "b").ast(0, 1),
+        their: m.text("c").ast(2, 3),
         comma: None,
     };
-    let arg: LoadArgP<Numbered> = arg.into_map_payload(alloc, &mut counter)?;
+    let arg: LoadArgP<Numbered> = m.made(arg.into_map_payload(alloc, &mut counter));
     assert_eq!(rt; arg.local.node.payload, 2);
     assert_eq!(rt; arg.their.node.as_str(), "c");
-    Ok(())
 }

@@ -1,6 +1,7 @@
-//! Trees of texts, and parts of them. What is left of a tree that is taken apart is forgotten: how trees are let go is proved
+//! Trees of texts, and parts of them. What remains of a tree that is taken apart is left: how trees are let go is proved
 //! anew in each crate that does so.
 
+use crate::maker::leave;
 use starlark_ast::ast::{
     AssignP, AstAssignTarget, AstExpr, AstParameter, AstStmt, Clause, DefP, ExprP, StmtP,
 };
@@ -10,27 +11,26 @@ use starlark_parser::module::AstModule;
 use starlark_place::codemap::CodeMapId;
 use std::alloc::{AllocError, Global};
 use std::fmt::Display;
-use std::mem;
 use std::test::Fail;
 
-/// What it prints. It is forgotten.
-pub(crate) fn printed<T: Display + Drop>(alloc: Global, x: T) -> Result<String, AllocError> {
+/// What it prints. It is left.
+pub(crate) fn printed<T: Display>(alloc: Global, x: T) -> Result<String, AllocError> {
     let text = x.to_string(alloc);
-    mem::forget(x);
+    leave(x);
     text
 }
 
-// forgets what a text has in the place of the form that is wanted. The fault names the text
-fn unlike<T: Drop>(text: &str, x: T) -> Fail {
-    mem::forget(x);
+// leaves what a text has in the place of the form that is wanted. The fault names the text
+fn unlike<T>(text: &str, x: T) -> Fail {
+    leave(x);
     Fail::from(text)
 }
 
-// the last of those that a text has. The others are forgotten
-fn last<T: Drop>(text: &str, xs: Vec<T>) -> Result<T, Fail> {
+// the last of those that a text has. The others are left
+fn last<T>(text: &str, xs: Vec<T>) -> Result<T, Fail> {
     let mut xs = xs;
     let last = xs.pop();
-    mem::forget(xs);
+    leave(xs);
     match last {
         Some(x) => Ok(x),
         None => Err(Fail::from(text)),
@@ -64,8 +64,8 @@ pub(crate) fn target(alloc: Global, text: &str) -> Result<AstAssignTarget, Fail>
     let node = tree(alloc, text)?.node;
     match node {
         StmtP::Assign(AssignP { lhs, ty, rhs }) => {
-            mem::forget(ty);
-            mem::forget(rhs);
+            leave(ty);
+            leave(rhs);
             Ok(lhs)
         }
         other => Err(unlike(text, other)),
@@ -85,9 +85,9 @@ pub(crate) fn parameter(alloc: Global, text: &str) -> Result<AstParameter, Fail>
                 payload: _,
             },
         ) => {
-            mem::forget(name);
-            mem::forget(return_type);
-            mem::forget(body);
+            leave(name);
+            leave(return_type);
+            leave(body);
             last(text, params)
         }
         other => Err(unlike(text, other)),
@@ -99,8 +99,8 @@ pub(crate) fn clause(alloc: Global, text: &str) -> Result<Clause, Fail> {
     let node = expression(alloc, text)?.node;
     match node {
         ExprP::ListComprehension(element, first, rest) => {
-            mem::forget(element);
-            mem::forget(first);
+            leave(element);
+            leave(first);
             last(text, rest)
         }
         other => Err(unlike(text, other)),

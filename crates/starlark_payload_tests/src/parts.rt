@@ -1,6 +1,7 @@
 //! Payload maps of what stands in expressions, by themselves and at a place.
 
 use crate::common::{Counter, Numbered, assigned, read};
+use crate::maker::{Maker, leave};
 use starlark_ast::ast::{
     Argument, ArgumentP, AssignTarget, AssignTargetP, AstArgumentP, AstAssignTargetP, AstExpr,
     AstFStringP, AstNoPayload, AstParameterP, AstTypeExprP, Clause, ClauseP, Expr, ExprP, FStringP,
@@ -11,141 +12,146 @@ use starlark_payload::payload_map::IntoMapPayload;
 use starlark_payload::placed_maps::{
     ArgumentPExt, AssignTargetPExt, FStringPExt, ParameterPExt, TypeExprPExt,
 };
-use std::alloc::{AllocError, Global};
-use std::mem;
-use std::test::Fail;
+use std::process::Abort;
 
 // `a`
-fn name(alloc: Global) -> Result<AstExpr, AllocError> {
-    let node: Expr = ExprP::Identifier(read(alloc, "a")?.ast(0, 1));
-    Ok(node.ast(0, 1))
+fn name(m: &Maker<'_, impl Abort>) -> AstExpr {
+    let node: Expr = ExprP::Identifier(read(m, "a").ast(0, 1));
+    node.ast(0, 1)
 }
 
 // `a` as a type
-fn a_type(alloc: Global) -> Result<TypeExpr, AllocError> {
-    let expr = name(alloc)?;
-    Ok(TypeExprP { expr, payload: () })
+fn a_type(m: &Maker<'_, impl Abort>) -> TypeExpr {
+    let expr = name(m);
+    TypeExprP { expr, payload: () }
 }
 
 // `b`
-fn target(alloc: Global) -> Result<AssignTarget, AllocError> {
-    Ok(AssignTargetP::Identifier(assigned(alloc, "b")?.ast(2, 3)))
+fn target(m: &Maker<'_, impl Abort>) -> AssignTarget {
+    AssignTargetP::Identifier(assigned(m, "b").ast(2, 3))
 }
 
 // `*b`
-fn parameter(alloc: Global) -> Result<Parameter, AllocError> {
-    Ok(ParameterP::Args(assigned(alloc, "b")?.ast(1, 2), None))
+fn parameter(m: &Maker<'_, impl Abort>) -> Parameter {
+    ParameterP::Args(assigned(m, "b").ast(1, 2), None)
 }
 
 // `f"{a}"`
-fn f_string(alloc: Global) -> Result<FStringP<AstNoPayload>, AllocError> {
-    let format = String::from_str(alloc, "{}")?.ast(2, 5);
-    let expr = name(alloc)?;
-    let expressions = vec![in alloc; expr]?;
-    Ok(FStringP {
+fn f_string(m: &Maker<'_, impl Abort>) -> FStringP<AstNoPayload> {
+    let format = m.text("{}").ast(2, 5);
+    let expressions = m.one(name(m));
+    FStringP {
         format,
         expressions,
-    })
+    }
 }
 
 // `for b in a`
-fn for_clause(alloc: Global) -> Result<ForClause, AllocError> {
-    let var = target(alloc)?.ast(2, 3);
-    let over = name(alloc)?;
-    Ok(ForClauseP { var, over })
+fn for_clause(m: &Maker<'_, impl Abort>) -> ForClause {
+    let var = target(m).ast(2, 3);
+    let over = name(m);
+    ForClauseP { var, over }
 }
 
 #[test]
-fn an_expression(rt: HostRuntime) -> Result<(), Fail> {
+fn an_expression(rt: HostRuntime) {
     let alloc = rt.alloc();
+    let m = &Maker::new(&rt, alloc);
     let mut counter = Counter::new();
-    let x: ExprP<Numbered> = name(alloc)?.node.into_map_payload(alloc, &mut counter)?;
+    let x: ExprP<Numbered> = m.made(name(m).node.into_map_payload(alloc, &mut counter));
     assert_eq!(rt; counter.next, 1);
-    mem::forget(x);
-    Ok(())
+    leave(x);
 }
 
 #[test]
-fn types(rt: HostRuntime) -> Result<(), Fail> {
+fn types(rt: HostRuntime) {
     let alloc = rt.alloc();
+    let m = &Maker::new(&rt, alloc);
     let mut counter = Counter::new();
-    let x: TypeExprP<Numbered> = a_type(alloc)?.into_map_payload(alloc, &mut counter)?;
+    let x: TypeExprP<Numbered> = m.made(a_type(m).into_map_payload(alloc, &mut counter));
     assert_eq!(rt; x.payload, 1);
-    mem::forget(x);
-    let x = a_type(alloc)?.ast(0, 1);
-    let x: AstTypeExprP<Numbered> = TypeExprPExt::into_map_payload(x, alloc, &mut counter)?;
+    leave(x);
+    let x = a_type(m).ast(0, 1);
+    let x: AstTypeExprP<Numbered> = m.made(TypeExprPExt::into_map_payload(x, alloc, &mut counter));
     assert_eq!(rt; x.node.payload, 3);
-    mem::forget(x);
-    Ok(())
+    leave(x);
 }
 
 #[test]
-fn targets(rt: HostRuntime) -> Result<(), Fail> {
+fn targets(rt: HostRuntime) {
     let alloc = rt.alloc();
+    let m = &Maker::new(&rt, alloc);
     let mut counter = Counter::new();
-    let x: AssignTargetP<Numbered> = target(alloc)?.into_map_payload(alloc, &mut counter)?;
-    mem::forget(x);
-    let x = target(alloc)?.ast(2, 3);
-    let x: AstAssignTargetP<Numbered> = AssignTargetPExt::into_map_payload(x, alloc, &mut counter)?;
+    let x: AssignTargetP<Numbered> = m.made(target(m).into_map_payload(alloc, &mut counter));
+    leave(x);
+    let x = target(m).ast(2, 3);
+    let x: AstAssignTargetP<Numbered> = m.made(AssignTargetPExt::into_map_payload(
+        x,
+        alloc,
+        &mut counter,
+    ));
     assert_eq!(rt; counter.next, 2);
-    mem::forget(x);
-    Ok(())
+    leave(x);
 }
 
 #[test]
-fn parameters(rt: HostRuntime) -> Result<(), Fail> {
+fn parameters(rt: HostRuntime) {
     let alloc = rt.alloc();
+    let m = &Maker::new(&rt, alloc);
     let mut counter = Counter::new();
-    let x: ParameterP<Numbered> = parameter(alloc)?.into_map_payload(alloc, &mut counter)?;
-    mem::forget(x);
-    let x = parameter(alloc)?.ast(0, 2);
-    let x: AstParameterP<Numbered> = ParameterPExt::into_map_payload(x, alloc, &mut counter)?;
+    let x: ParameterP<Numbered> = m.made(parameter(m).into_map_payload(alloc, &mut counter));
+    leave(x);
+    let x = parameter(m).ast(0, 2);
+    let x: AstParameterP<Numbered> = m.made(ParameterPExt::into_map_payload(
+        x,
+        alloc,
+        &mut counter,
+    ));
     assert_eq!(rt; counter.next, 2);
-    mem::forget(x);
-    Ok(())
+    leave(x);
 }
 
 #[test]
-fn arguments(rt: HostRuntime) -> Result<(), Fail> {
+fn arguments(rt: HostRuntime) {
     let alloc = rt.alloc();
+    let m = &Maker::new(&rt, alloc);
     let mut counter = Counter::new();
-    let x: Argument = ArgumentP::Positional(name(alloc)?);
-    let x: ArgumentP<Numbered> = x.into_map_payload(alloc, &mut counter)?;
-    mem::forget(x);
-    let x: Argument = ArgumentP::Args(name(alloc)?);
-    let x: AstArgumentP<Numbered> = ArgumentPExt::into_map_payload(
+    let x: Argument = ArgumentP::Positional(name(m));
+    let x: ArgumentP<Numbered> = m.made(x.into_map_payload(alloc, &mut counter));
+    leave(x);
+    let x: Argument = ArgumentP::Args(name(m));
+    let x: AstArgumentP<Numbered> = m.made(ArgumentPExt::into_map_payload(
         x.ast(0, 2),
         alloc,
         &mut counter,
-    )?;
+    ));
     assert_eq!(rt; counter.next, 2);
-    mem::forget(x);
-    Ok(())
+    leave(x);
 }
 
 #[test]
-fn f_strings(rt: HostRuntime) -> Result<(), Fail> {
+fn f_strings(rt: HostRuntime) {
     let alloc = rt.alloc();
+    let m = &Maker::new(&rt, alloc);
     let mut counter = Counter::new();
-    let x: FStringP<Numbered> = f_string(alloc)?.into_map_payload(alloc, &mut counter)?;
-    mem::forget(x);
-    let x = f_string(alloc)?.ast(0, 6);
-    let x: AstFStringP<Numbered> = FStringPExt::into_map_payload(x, alloc, &mut counter)?;
+    let x: FStringP<Numbered> = m.made(f_string(m).into_map_payload(alloc, &mut counter));
+    leave(x);
+    let x = f_string(m).ast(0, 6);
+    let x: AstFStringP<Numbered> = m.made(FStringPExt::into_map_payload(x, alloc, &mut counter));
     assert_eq!(rt; counter.next, 2);
-    mem::forget(x);
-    Ok(())
+    leave(x);
 }
 
 #[test]
-fn clauses(rt: HostRuntime) -> Result<(), Fail> {
+fn clauses(rt: HostRuntime) {
     let alloc = rt.alloc();
+    let m = &Maker::new(&rt, alloc);
     let mut counter = Counter::new();
-    let x: ForClauseP<Numbered> = for_clause(alloc)?.into_map_payload(alloc, &mut counter)?;
+    let x: ForClauseP<Numbered> = m.made(for_clause(m).into_map_payload(alloc, &mut counter));
     assert_eq!(rt; counter.next, 2);
-    mem::forget(x);
-    let x: Clause = ClauseP::If(name(alloc)?);
-    let x: ClauseP<Numbered> = x.into_map_payload(alloc, &mut counter)?;
+    leave(x);
+    let x: Clause = ClauseP::If(name(m));
+    let x: ClauseP<Numbered> = m.made(x.into_map_payload(alloc, &mut counter));
     assert_eq!(rt; counter.next, 3);
-    mem::forget(x);
-    Ok(())
+    leave(x);
 }

@@ -1,7 +1,8 @@
-//! Payload maps of statements. Trees are forgotten in the end: how they are let go is proved anew in each
+//! Payload maps of statements. Trees are left in the end: how they are let go is proved anew in each
 //! crate that does so.
 
 use crate::common::{Counter, Numbered, assigned, read};
+use crate::maker::{Maker, leave};
 use starlark_ast::ast::{
     AssignP, AssignTarget, AssignTargetP, AstAssignTarget, AstAssignTargetP, AstExpr, AstExprP,
     AstNoPayload, AstStmt, AstStmtP, Comma, DefP, Expr, ExprP, ForP, LoadArgP, LoadP, Parameter,
@@ -11,45 +12,43 @@ use starlark_ast::making::ToAst;
 use starlark_payload::payload_map::IntoMapPayload;
 use starlark_payload::statement_maps::StmtPExt;
 use starlark_place::pos::Spanned;
-use std::alloc::{AllocError, Global};
-use std::mem;
-use std::test::Fail;
+use std::process::Abort;
 
 // a name of one letter
-fn name(alloc: Global, text: &str) -> Result<AstExpr, AllocError> {
-    let node: Expr = ExprP::Identifier(read(alloc, text)?.ast(0, 1));
-    Ok(node.ast(0, 1))
+fn name(m: &Maker<'_, impl Abort>, text: &str) -> AstExpr {
+    let node: Expr = ExprP::Identifier(read(m, text).ast(0, 1));
+    node.ast(0, 1)
 }
 
 // a name as a statement
-fn line(alloc: Global, text: &str) -> Result<AstStmt, AllocError> {
-    let node: Stmt = StmtP::Expression(name(alloc, text)?);
-    Ok(node.ast(0, 1))
+fn line(m: &Maker<'_, impl Abort>, text: &str) -> AstStmt {
+    let node: Stmt = StmtP::Expression(name(m, text));
+    node.ast(0, 1)
 }
 
 // `x`
-fn target(alloc: Global) -> Result<AstAssignTarget, AllocError> {
-    let node: AssignTarget = AssignTargetP::Identifier(assigned(alloc, "x")?.ast(0, 1));
-    Ok(node.ast(0, 1))
+fn target(m: &Maker<'_, impl Abort>) -> AstAssignTarget {
+    let node: AssignTarget = AssignTargetP::Identifier(assigned(m, "x").ast(0, 1));
+    node.ast(0, 1)
 }
 
 // `x` and `*y`, as parameters
-fn parameters(alloc: Global) -> Result<Vec<Spanned<Parameter>>, AllocError> {
-    let x = assigned(alloc, "x")?.ast(6, 7);
-    let y = assigned(alloc, "y")?.ast(10, 11);
+fn parameters(m: &Maker<'_, impl Abort>) -> Vec<Spanned<Parameter>> {
+    let x = assigned(m, "x").ast(6, 7);
+    let y = assigned(m, "y").ast(10, 11);
     let first: Parameter = ParameterP::Normal(x, None, None);
     let second: Parameter = ParameterP::Args(y, None);
-    Ok(vec![in alloc; first.ast(6, 7), second.ast(9, 11)]?)
+    m.both(first.ast(6, 7), second.ast(9, 11))
 }
 
 // `def f(x, *y): a; return b`
-fn def(alloc: Global) -> Result<AstStmt, AllocError> {
-    let last: Stmt = StmtP::Return(Some(name(alloc, "b")?));
-    let first = line(alloc, "a")?;
-    let body: Stmt = StmtP::Statements(vec![in alloc; first, last.ast(17, 25)]?);
-    let body = Box::new(alloc, body.ast(14, 25))?;
-    let params = parameters(alloc)?;
-    let name = assigned(alloc, "f")?.ast(4, 5);
+fn def(m: &Maker<'_, impl Abort>) -> AstStmt {
+    let last: Stmt = StmtP::Return(Some(name(m, "b")));
+    let first = line(m, "a");
+    let body: Stmt = StmtP::Statements(m.both(first, last.ast(17, 25)));
+    let body = m.boxed(body.ast(14, 25));
+    let params = parameters(m);
+    let name = assigned(m, "f").ast(4, 5);
     let node: Stmt = StmtP::Def(DefP {
         name,
         params,
@@ -57,50 +56,50 @@ fn def(alloc: Global) -> Result<AstStmt, AllocError> {
         body,
         payload: (),
     });
-    Ok(node.ast(0, 25))
+    node.ast(0, 25)
 }
 
 // `if c: a` and `else: b`
-fn branches(alloc: Global) -> Result<Stmt, AllocError> {
-    let bodies = (line(alloc, "a")?, line(alloc, "b")?);
-    let bodies = Box::new(alloc, bodies)?;
-    Ok(StmtP::IfElse(name(alloc, "c")?, bodies))
+fn branches(m: &Maker<'_, impl Abort>) -> Stmt {
+    let bodies = (line(m, "a"), line(m, "b"));
+    let bodies = m.boxed(bodies);
+    StmtP::IfElse(name(m, "c"), bodies)
 }
 
 // `for x in y: z`
-fn for_loop(alloc: Global) -> Result<ForP<AstNoPayload>, AllocError> {
-    let body = Box::new(alloc, line(alloc, "z")?)?;
-    let over = name(alloc, "y")?;
-    let var = target(alloc)?;
-    Ok(ForP { var, over, body })
+fn for_loop(m: &Maker<'_, impl Abort>) -> ForP<AstNoPayload> {
+    let body = m.boxed(line(m, "z"));
+    let over = name(m, "y");
+    let var = target(m);
+    ForP { var, over, body }
 }
 
 // `x = a`
-fn assignment(alloc: Global) -> Result<AssignP<AstNoPayload>, AllocError> {
-    let rhs = name(alloc, "a")?;
-    let lhs = target(alloc)?;
-    Ok(AssignP { lhs, ty: None, rhs })
+fn assignment(m: &Maker<'_, impl Abort>) -> AssignP<AstNoPayload> {
+    let rhs = name(m, "a");
+    let lhs = target(m);
+    AssignP { lhs, ty: None, rhs }
 }
 
 // `load("m", "a", b="c")`
-fn load(alloc: Global) -> Result<Stmt, AllocError> {
+fn load(m: &Maker<'_, impl Abort>) -> Stmt {
     let a = LoadArgP {
-        local: assigned(alloc, "a")?.ast(10, 13),
-        their: String::from_str(alloc, "a")?.ast(10, 13),
+        local: assigned(m, "a").ast(10, 13),
+        their: m.text("a").ast(10, 13),
         comma: Some(Comma.ast(13, 14)),
     };
     let b = LoadArgP {
-        local: assigned(alloc, "b")?.ast(15, 16),
-        their: String::from_str(alloc, "c")?.ast(17, 20),
+        local: assigned(m, "b").ast(15, 16),
+        their: m.text("c").ast(17, 20),
         comma: None,
     };
-    let args = vec![in alloc; a, b]?;
-    let module = String::from_str(alloc, "m")?.ast(5, 8);
-    Ok(StmtP::Load(LoadP {
+    let args = m.both(a, b);
+    let module = m.text("m").ast(5, 8);
+    StmtP::Load(LoadP {
         module,
         args,
         payload: (),
-    }))
+    })
 }
 
 fn then(number: u32, next: u32) -> u32 {
@@ -194,55 +193,55 @@ fn keeps_names(x: &StmtP<Numbered>) -> bool {
 }
 
 #[test]
-fn a_def(rt: HostRuntime) -> Result<(), Fail> {
+fn a_def(rt: HostRuntime) {
     let alloc = rt.alloc();
+    let m = &Maker::new(&rt, alloc);
     let mut counter = Counter::new();
     counter.next = 1;
-    let tree: AstStmtP<Numbered> = StmtPExt::into_map_payload(def(alloc)?, alloc, &mut counter)?;
+    let tree: AstStmtP<Numbered> = m.made(StmtPExt::into_map_payload(def(m), alloc, &mut counter));
     assert_eq!(rt; numbers_of_def(&tree), 123456);
     assert_eq!(rt; counter.next, 7);
-    mem::forget(tree);
-    Ok(())
+    leave(tree);
 }
 
 #[test]
-fn branches_and_a_loop(rt: HostRuntime) -> Result<(), Fail> {
+fn branches_and_a_loop(rt: HostRuntime) {
     let alloc = rt.alloc();
+    let m = &Maker::new(&rt, alloc);
     let mut counter = Counter::new();
     counter.next = 1;
-    let tree: StmtP<Numbered> = branches(alloc)?.into_map_payload(alloc, &mut counter)?;
+    let tree: StmtP<Numbered> = m.made(branches(m).into_map_payload(alloc, &mut counter));
     assert_eq!(rt; numbers_of_branches(&tree), 123);
     assert_eq!(rt; counter.next, 4);
-    mem::forget(tree);
-    let tree: ForP<Numbered> = for_loop(alloc)?.into_map_payload(alloc, &mut counter)?;
+    leave(tree);
+    let tree: ForP<Numbered> = m.made(for_loop(m).into_map_payload(alloc, &mut counter));
     assert_eq!(rt; number_of_target(&tree.var), 4);
     assert_eq!(rt; number_of(&tree.over), 5);
     assert_eq!(rt; number_of_line(&tree.body), 6);
-    mem::forget(tree);
-    Ok(())
+    leave(tree);
 }
 
 #[test]
-fn an_assignment(rt: HostRuntime) -> Result<(), Fail> {
+fn an_assignment(rt: HostRuntime) {
     let alloc = rt.alloc();
+    let m = &Maker::new(&rt, alloc);
     let mut counter = Counter::new();
-    let tree: AssignP<Numbered> = assignment(alloc)?.into_map_payload(alloc, &mut counter)?;
+    let tree: AssignP<Numbered> = m.made(assignment(m).into_map_payload(alloc, &mut counter));
     assert_eq!(rt; number_of_target(&tree.lhs), 0);
     assert_eq!(rt; number_of(&tree.rhs), 1);
-    mem::forget(tree);
-    Ok(())
+    leave(tree);
 }
 
 #[test]
-fn a_load(rt: HostRuntime) -> Result<(), Fail> {
+fn a_load(rt: HostRuntime) {
     let alloc = rt.alloc();
+    let m = &Maker::new(&rt, alloc);
     let mut counter = Counter::new();
     counter.next = 1;
-    let tree: StmtP<Numbered> = load(alloc)?.into_map_payload(alloc, &mut counter)?;
+    let tree: StmtP<Numbered> = m.made(load(m).into_map_payload(alloc, &mut counter));
     assert!(rt; counter.is_of_m);
     assert_eq!(rt; numbers_of_load(&tree), 123);
     assert!(rt; keeps_names(&tree));
     assert_eq!(rt; counter.next, 4);
-    mem::forget(tree);
-    Ok(())
+    leave(tree);
 }

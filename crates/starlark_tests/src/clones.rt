@@ -1,6 +1,8 @@
-//! Clones show the same as what they are of, places and texts among it.
+//! Clones show the same as what they are of, places and texts among it. They are left: how trees are let go is proved anew in each
+//! crate that does so.
 
-use crate::common::{parsed, prints, same, span};
+use crate::common::{parsed, span};
+use crate::maker::Maker;
 use starlark_ast::ast::{AstStmt, ExprP, StmtP};
 use starlark_clone::clone_tree::CloneTree;
 use std::alloc::AllocError;
@@ -9,6 +11,7 @@ use std::test::Fail;
 #[test]
 fn clones_of_expressions(rt: HostRuntime) -> Result<(), Fail> {
     let alloc = rt.alloc();
+    let m = Maker::new(&rt, alloc);
     for text in [
         "[(), (1, 2), [3, 0x80000000], {4: 5.5, \"a\": \"b\"}]",
         "a.b[c](d, e = f, *g, **h)[i, j][k:l:m][:]",
@@ -26,7 +29,7 @@ fn clones_of_expressions(rt: HostRuntime) -> Result<(), Fail> {
         let StmtP::Expression(x) = &module.statement().node else {
             return Err(Fail::from(AllocError));
         };
-        same(&rt, alloc, &x.node.clone(alloc)?, &x.node)?;
+        m.copied(x.node.clone(alloc), &x.node);
     }
     Ok(())
 }
@@ -34,6 +37,7 @@ fn clones_of_expressions(rt: HostRuntime) -> Result<(), Fail> {
 #[test]
 fn clones_of_parts(rt: HostRuntime) -> Result<(), Fail> {
     let alloc = rt.alloc();
+    let m = Maker::new(&rt, alloc);
     let module = parsed(alloc, "f(lambda a, b = 1: a, x = [a for b in c if d])")?;
     let StmtP::Expression(x) = &module.statement().node else {
         return Err(Fail::from(AllocError));
@@ -41,22 +45,22 @@ fn clones_of_parts(rt: HostRuntime) -> Result<(), Fail> {
     let ExprP::Call(_, args) = &x.node else {
         return Err(Fail::from(AllocError));
     };
-    same(&rt, alloc, &args.clone(alloc)?, args)?;
+    m.copied(args.clone(alloc), args);
     for arg in &args.args {
-        same(&rt, alloc, &arg.node.clone(alloc)?, &arg.node)?;
+        m.copied(arg.node.clone(alloc), &arg.node);
         match &arg.node.expr().node {
             ExprP::Lambda(lambda) => {
-                same(&rt, alloc, &lambda.clone(alloc)?, lambda)?;
+                m.copied(lambda.clone(alloc), lambda);
                 for param in &lambda.params {
-                    same(&rt, alloc, &param.node.clone(alloc)?, &param.node)?;
+                    m.copied(param.node.clone(alloc), &param.node);
                 }
             }
             ExprP::ListComprehension(_, first, rest) => {
                 let first = &**first;
-                same(&rt, alloc, &first.clone(alloc)?, first)?;
-                same(&rt, alloc, &first.var.node.clone(alloc)?, &first.var.node)?;
+                m.copied(first.clone(alloc), first);
+                m.copied(first.var.node.clone(alloc), &first.var.node);
                 for clause in rest {
-                    same(&rt, alloc, &clause.clone(alloc)?, clause)?;
+                    m.copied(clause.clone(alloc), clause);
                 }
             }
             _ => return Err(Fail::from(AllocError)),
@@ -68,6 +72,7 @@ fn clones_of_parts(rt: HostRuntime) -> Result<(), Fail> {
 #[test]
 fn clones_of_statements(rt: HostRuntime) -> Result<(), Fail> {
     let alloc = rt.alloc();
+    let m = Maker::new(&rt, alloc);
     for text in [
         "load(\"m\", \"a\", b = \"c\",)\nx = 1; y: list[int] = 2\nz.w += 3\nv[0], [u, (t)] = s\n",
         "def f(a, /, b: int = 1, *c, d: str, **e) -> None:\n  if a:\n    return\n  elif b:\n    pass\n  return c\n",
@@ -78,15 +83,15 @@ fn clones_of_statements(rt: HostRuntime) -> Result<(), Fail> {
     ] {
         let module = parsed(alloc, text)?;
         let tree = &module.statement().node;
-        same(&rt, alloc, &tree.clone(alloc)?, tree)?;
+        m.copied(tree.clone(alloc), tree);
         match tree {
-            StmtP::Def(x) => same(&rt, alloc, &x.clone(alloc)?, x)?,
-            StmtP::For(x) => same(&rt, alloc, &x.clone(alloc)?, x)?,
+            StmtP::Def(x) => m.copied(x.clone(alloc), x),
+            StmtP::For(x) => m.copied(x.clone(alloc), x),
             StmtP::Expression(x) => {
                 let ExprP::FString(x) = &x.node else {
                     return Err(Fail::from(AllocError));
                 };
-                same(&rt, alloc, &x.node.clone(alloc)?, &x.node)?;
+                m.copied(x.node.clone(alloc), &x.node);
             }
             _ => {}
         }
@@ -95,53 +100,56 @@ fn clones_of_statements(rt: HostRuntime) -> Result<(), Fail> {
     let StmtP::Assign(x) = &module.statement().node else {
         return Err(Fail::from(AllocError));
     };
-    same(&rt, alloc, &x.clone(alloc)?, x)?;
+    m.copied(x.clone(alloc), x);
     let Some(ty) = &x.ty else {
         return Err(Fail::from(AllocError));
     };
-    same(&rt, alloc, &ty.node.clone(alloc)?, &ty.node)?;
+    m.copied(ty.node.clone(alloc), &ty.node);
     Ok(())
 }
 
 #[test]
 fn clones_at_places(rt: HostRuntime) -> Result<(), Fail> {
     let alloc = rt.alloc();
+    let m = Maker::new(&rt, alloc);
     let module = parsed(alloc, "a\nb")?;
     let tree = module.statement();
-    let again: AstStmt = tree.clone(alloc)?;
+    let again: AstStmt = m.made(tree.clone(alloc));
     assert_eq!(rt; again.span, span(0, 3));
-    prints(&rt, alloc, &again.node, "a\nb\n")?;
-    same(&rt, alloc, &again, tree)?;
+    m.same(&again, tree);
+    m.printed(again.node, "a\nb\n");
     Ok(())
 }
 
 #[test]
 fn clones_of_names_at_places(rt: HostRuntime) -> Result<(), Fail> {
     let alloc = rt.alloc();
+    let m = Maker::new(&rt, alloc);
     let module = parsed(alloc, "def f(): return a.b")?;
     let StmtP::Def(def) = &module.statement().node else {
         return Err(Fail::from(AllocError));
     };
-    same(&rt, alloc, &def.name.clone(alloc)?, &def.name)?;
+    m.copied(def.name.clone(alloc), &def.name);
     let StmtP::Return(Some(x)) = &def.body.node else {
         return Err(Fail::from(AllocError));
     };
-    same(&rt, alloc, &x.clone(alloc)?, x)?;
+    m.copied(x.clone(alloc), x);
     let ExprP::Dot(object, name) = &x.node else {
         return Err(Fail::from(AllocError));
     };
-    same(&rt, alloc, &name.clone(alloc)?, name)?;
+    m.copied(name.clone(alloc), name);
     let ExprP::Identifier(read) = &object.node else {
         return Err(Fail::from(AllocError));
     };
-    same(&rt, alloc, &read.clone(alloc)?, read)?;
+    m.copied(read.clone(alloc), read);
     Ok(())
 }
 
 #[test]
 fn clones_of_modules(rt: HostRuntime) -> Result<(), Fail> {
     let alloc = rt.alloc();
+    let m = Maker::new(&rt, alloc);
     let module = parsed(alloc, "# a\n# b\nx = [1] # c\n")?;
-    same(&rt, alloc, &module.clone(alloc)?, &module)?;
+    m.copied(module.clone(alloc), &module);
     Ok(())
 }

@@ -8,32 +8,7 @@ use starlark_parser::module::AstModule;
 use starlark_place::codemap::CodeMapId;
 use starlark_place::pos::{Pos, Span};
 use std::alloc::{AllocError, Global};
-use std::fmt::{Debug, Display};
-use std::process::Abort;
 use std::test::Fail;
-
-pub(crate) fn prints(
-    rt: &impl Abort,
-    alloc: Global,
-    x: &impl Display,
-    want: &str,
-) -> Result<(), AllocError> {
-    let text = x.to_string(alloc)?;
-    assert_eq!(rt; text.as_str(), want);
-    Ok(())
-}
-
-/// Both show the same, places and texts among it.
-pub(crate) fn same(
-    rt: &impl Abort,
-    alloc: Global,
-    x: &impl Debug,
-    y: &impl Debug,
-) -> Result<(), AllocError> {
-    let shown = format!(in alloc; "{x:?}")?;
-    assert_eq!(rt; shown, format!(in alloc; "{y:?}")?);
-    Ok(())
-}
 
 pub(crate) fn span(begin: u32, end: u32) -> Span
     requires { begin ≤ end }

@@ -7,6 +7,8 @@ mod clones;
 #[cfg(test)]
 mod common;
 #[cfg(test)]
+mod maker;
+#[cfg(test)]
 mod parsing;
 #[cfg(test)]
 mod replacing;

@@ -1,6 +1,7 @@
 //! A text with its tree, and what a refusal prints.
 
-use crate::common::{parsed, prints, span};
+use crate::common::{parsed, span};
+use crate::maker::Maker;
 use starlark_ast::ast::StmtP;
 use starlark_lexer::dialect::Dialect;
 use starlark_parser::fault::{EvalException, ParserErrorKind};
@@ -55,7 +56,7 @@ fn refusals(rt: HostRuntime) -> Result<(), Fail> {
         let Err(EvalException::Fault(fault)) = parse(alloc, text, &Dialect::Standard)? else {
             return Err(Fail::from(AllocError));
         };
-        prints(&rt, alloc, &fault, shown)?;
+        Maker::new(&rt, alloc).prints(&fault, shown);
         assert_eq!(rt; fault.inner().kind(), kind);
     }
     Ok(())
@@ -97,12 +98,13 @@ fn comments(rt: HostRuntime) -> Result<(), Fail> {
 #[test]
 fn file_spans(rt: HostRuntime) -> Result<(), Fail> {
     let alloc = rt.alloc();
+    let m = Maker::new(&rt, alloc);
     let module = parsed(alloc, "x = 1\nf(x)\n")?;
     let within = span(6, 10);
     assert!(&rt; module.codemap().holds(within));
-    prints(&rt, alloc, &module.file_span(within)?, "t:2:1-5")?;
+    m.prints(&module.file_span(within)?, "t:2:1-5");
     let over = span(4, 7);
     assert!(&rt; module.codemap().holds(over));
-    prints(&rt, alloc, &module.file_span(over)?, "t:1:5-2:2")?;
+    m.prints(&module.file_span(over)?, "t:1:5-2:2");
     Ok(())
 }

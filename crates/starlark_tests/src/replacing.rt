@@ -1,6 +1,7 @@
 //! Operators of modules that become calls, as what their trees print.
 
-use crate::common::{parsed, prints, same, span};
+use crate::common::{parsed, span};
+use crate::maker::Maker;
 use starlark_ast::ast::{ExprP, StmtP};
 use std::alloc::{AllocError, Global};
 use std::collections::HashMap;
@@ -26,7 +27,7 @@ fn replaced(
 ) -> Result<(), Fail> {
     let mut module = parsed(alloc, text)?;
     module.replace_binary_operators(alloc, &names(alloc, pairs)?)?;
-    prints(rt, alloc, &module.statement().node, want)?;
+    Maker::new(rt, alloc).prints(&module.statement().node, want);
     Ok(())
 }
 
@@ -69,13 +70,14 @@ fn everywhere(rt: HostRuntime) -> Result<(), Fail> {
 #[test]
 fn nothing(rt: HostRuntime) -> Result<(), Fail> {
     let alloc = rt.alloc();
+    let m = Maker::new(&rt, alloc);
     let text = "# a\nx = a + b if c and d else [e == f] # b\n";
     let mut module = parsed(alloc, text)?;
     module.replace_binary_operators(alloc, &names(alloc, &[])?)?;
-    same(&rt, alloc, &module, &parsed(alloc, text)?)?;
+    m.same(&module, &parsed(alloc, text)?);
     let others = [("=", "set"), (" + ", "plus"), ("not", "no"), ("if", "when")];
     module.replace_binary_operators(alloc, &names(alloc, &others)?)?;
-    same(&rt, alloc, &module, &parsed(alloc, text)?)?;
+    m.same(&module, &parsed(alloc, text)?);
     Ok(())
 }
 

@@ -5,6 +5,8 @@
 #[cfg(test)]
 mod common;
 #[cfg(test)]
+mod maker;
+#[cfg(test)]
 mod prints;
 #[cfg(test)]
 mod rule_texts;

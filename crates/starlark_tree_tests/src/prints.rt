@@ -1,15 +1,15 @@
 //! What trees print that are made by hand: arguments, parameters, types and clauses by themselves, blocks in blocks, and what
 //! no text is read as.
 
-use crate::common::{boxed, printed, prints, span};
+use crate::common::span;
+use crate::maker::Maker;
 use starlark_ast::ast::{
     ArgumentP, AssignIdentP, AssignOp, AssignP, AssignTargetP, AstAssignIdent, AstAssignTarget,
     AstExpr, AstStmt, AstTypeExpr, BinOp, ClauseP, Expr, ExprP, ForClause, ForClauseP, IdentP,
     LoadP, Parameter, ParameterP, Stmt, StmtP, TypeExprP,
 };
 use starlark_place::pos::Spanned;
-use std::alloc::{AllocError, Global};
-use std::test::Fail;
+use std::process::Abort;
 
 /// A node at no place of its own.
 fn somewhere<T>(node: T) -> Spanned<T> {
@@ -24,175 +24,159 @@ fn read(ident: String) -> AstExpr {
     somewhere(ExprP::Identifier(somewhere(ident)))
 }
 
-fn name(alloc: Global, text: &str) -> Result<AstExpr, Fail> {
-    Ok(read(String::from_str(alloc, text)?))
+fn name(m: &Maker<'_, impl Abort>, text: &str) -> AstExpr {
+    read(m.text(text))
 }
 
-fn assigned(alloc: Global, text: &str) -> Result<AstAssignIdent, Fail> {
-    let ident = String::from_str(alloc, text)?;
-    Ok(somewhere(AssignIdentP { ident, payload: () }))
+fn assigned(m: &Maker<'_, impl Abort>, text: &str) -> AstAssignIdent {
+    let ident = m.text(text);
+    somewhere(AssignIdentP { ident, payload: () })
 }
 
 fn target(ident: AstAssignIdent) -> AstAssignTarget {
     somewhere(AssignTargetP::Identifier(ident))
 }
 
-/// Two values, each in a box.
-fn boxes<T: Drop, U: Drop>(alloc: Global, x: T, y: U) -> Result<(Box<T>, Box<U>), AllocError> {
-    let x = Box::new(alloc, x)?;
-    let y = Box::new(alloc, y)?;
-    Ok((x, y))
-}
-
 /// `if condition: pass` and what stands in its `else`.
-fn either(alloc: Global, condition: &str, other: Stmt) -> Result<Stmt, Fail> {
-    let condition = name(alloc, condition)?;
+fn either(m: &Maker<'_, impl Abort>, condition: &str, other: Stmt) -> Stmt {
+    let condition = name(m, condition);
     let bodies: (AstStmt, AstStmt) = (somewhere(StmtP::Pass), somewhere(other));
-    Ok(StmtP::IfElse(condition, Box::new(alloc, bodies)?))
+    StmtP::IfElse(condition, m.boxed(bodies))
 }
 
 #[test]
-fn blocks(rt: HostRuntime) -> Result<(), Fail> {
-    let alloc = rt.alloc();
-    let inner = either(alloc, "b", StmtP::Return(Some(name(alloc, "c")?)))?;
-    let tree = either(alloc, "a", inner)?;
+fn blocks(rt: HostRuntime) {
+    let m = &Maker::new(&rt, rt.alloc());
+    let inner = either(m, "b", StmtP::Return(Some(name(m, "c"))));
+    let tree = either(m, "a", inner);
     let text = "if a:\n  pass\nelse:\n  if b:\n    pass\n  else:\n    return c\n";
-    prints(&rt, alloc, &tree, text)?;
-    Ok(())
+    m.printed(tree, text);
 }
 
 #[test]
-fn assignments(rt: HostRuntime) -> Result<(), Fail> {
-    let alloc = rt.alloc();
+fn assignments(rt: HostRuntime) {
+    let m = &Maker::new(&rt, rt.alloc());
     let ty: AstTypeExpr = somewhere(TypeExprP {
-        expr: name(alloc, "int")?,
+        expr: name(m, "int"),
         payload: (),
     });
     let tree: Stmt = StmtP::Assign(AssignP {
-        lhs: target(assigned(alloc, "x")?),
+        lhs: target(assigned(m, "x")),
         ty: Some(ty),
-        rhs: name(alloc, "y")?,
+        rhs: name(m, "y"),
     });
-    prints(&rt, alloc, &tree, "x : int = y\n")?;
-    Ok(())
+    m.printed(tree, "x : int = y\n");
 }
 
 /// A load that binds nothing, and a list of no statements.
 #[test]
-fn empty(rt: HostRuntime) -> Result<(), Fail> {
-    let alloc = rt.alloc();
+fn empty(rt: HostRuntime) {
+    let m = &Maker::new(&rt, rt.alloc());
     let load: Stmt = StmtP::Load(LoadP {
-        module: somewhere(String::from_str(alloc, "m")?),
-        args: Vec::new(alloc),
+        module: somewhere(m.text("m")),
+        args: m.none(),
         payload: (),
     });
-    prints(&rt, alloc, &load, "load(\"m\", )\n")?;
-    let list: Stmt = StmtP::Statements(Vec::new(alloc));
-    prints(&rt, alloc, &list, "")?;
-    Ok(())
+    m.printed(load, "load(\"m\", )\n");
+    let list: Stmt = StmtP::Statements(m.none());
+    m.printed(list, "");
 }
 
 #[test]
-fn arguments(rt: HostRuntime) -> Result<(), Fail> {
-    let alloc = rt.alloc();
-    let positional = ArgumentP::Positional(name(alloc, "a")?);
-    printed(&rt, alloc, positional, "a")?;
-    let label = somewhere(String::from_str(alloc, "x")?);
-    let named = ArgumentP::Named(label, name(alloc, "a")?);
-    printed(&rt, alloc, named, "x = a")?;
-    let args = ArgumentP::Args(name(alloc, "a")?);
-    printed(&rt, alloc, args, "*a")?;
-    let kwargs = ArgumentP::KwArgs(name(alloc, "a")?);
-    printed(&rt, alloc, kwargs, "**a")?;
-    Ok(())
+fn arguments(rt: HostRuntime) {
+    let m = &Maker::new(&rt, rt.alloc());
+    let positional = ArgumentP::Positional(name(m, "a"));
+    m.printed(positional, "a");
+    let label = somewhere(m.text("x"));
+    let named = ArgumentP::Named(label, name(m, "a"));
+    m.printed(named, "x = a");
+    let args = ArgumentP::Args(name(m, "a"));
+    m.printed(args, "*a");
+    let kwargs = ArgumentP::KwArgs(name(m, "a"));
+    m.printed(kwargs, "**a");
 }
 
 /// The type `T`.
-fn a_type(alloc: Global) -> Result<AstTypeExpr, Fail> {
-    let expr = name(alloc, "T")?;
-    Ok(somewhere(TypeExprP { expr, payload: () }))
+fn a_type(m: &Maker<'_, impl Abort>) -> AstTypeExpr {
+    let expr = name(m, "T");
+    somewhere(TypeExprP { expr, payload: () })
 }
 
 #[test]
-fn types(rt: HostRuntime) -> Result<(), Fail> {
-    let alloc = rt.alloc();
-    printed(&rt, alloc, a_type(alloc)?.node, "T")?;
-    Ok(())
+fn types(rt: HostRuntime) {
+    let m = &Maker::new(&rt, rt.alloc());
+    m.printed(a_type(m).node, "T");
 }
 
 /// `x: T = a`.
-fn typed_with_default(alloc: Global) -> Result<Parameter, Fail> {
-    let x = assigned(alloc, "x")?;
-    let a = String::from_str(alloc, "a")?;
-    let (ty, a) = boxes(alloc, a_type(alloc)?, read(a))?;
-    Ok(ParameterP::Normal(x, Some(ty), Some(a)))
+fn typed_with_default(m: &Maker<'_, impl Abort>) -> Parameter {
+    let x = assigned(m, "x");
+    let ty = m.boxed(a_type(m));
+    let a = m.boxed(name(m, "a"));
+    ParameterP::Normal(x, Some(ty), Some(a))
 }
 
 #[test]
-fn parameters(rt: HostRuntime) -> Result<(), Fail> {
-    let alloc = rt.alloc();
+fn parameters(rt: HostRuntime) {
+    let m = &Maker::new(&rt, rt.alloc());
     let slash: Parameter = ParameterP::Slash;
-    printed(&rt, alloc, slash, "/")?;
+    m.printed(slash, "/");
     let star: Parameter = ParameterP::NoArgs;
-    printed(&rt, alloc, star, "*")?;
-    let x = assigned(alloc, "x")?;
-    printed(&rt, alloc, ParameterP::Normal(x, None, None), "x")?;
-    printed(&rt, alloc, typed_with_default(alloc)?, "x: T = a")?;
-    let x = assigned(alloc, "x")?;
-    let a = boxed(alloc, name(alloc, "a")?)?;
-    printed(&rt, alloc, ParameterP::Normal(x, None, Some(a)), "x = a")?;
-    let x = assigned(alloc, "x")?;
-    printed(&rt, alloc, ParameterP::Args(x, None), "*x")?;
-    let x = assigned(alloc, "x")?;
-    let ty = boxed(alloc, a_type(alloc)?)?;
-    printed(&rt, alloc, ParameterP::Args(x, Some(ty)), "*x: T")?;
-    let x = assigned(alloc, "x")?;
-    let ty = boxed(alloc, a_type(alloc)?)?;
-    printed(&rt, alloc, ParameterP::KwArgs(x, Some(ty)), "**x: T")?;
-    Ok(())
+    m.printed(star, "*");
+    let x = assigned(m, "x");
+    m.printed(ParameterP::Normal(x, None, None), "x");
+    m.printed(typed_with_default(m), "x: T = a");
+    let x = assigned(m, "x");
+    let a = m.boxed(name(m, "a"));
+    m.printed(ParameterP::Normal(x, None, Some(a)), "x = a");
+    let x = assigned(m, "x");
+    m.printed(ParameterP::Args(x, None), "*x");
+    let x = assigned(m, "x");
+    let ty = m.boxed(a_type(m));
+    m.printed(ParameterP::Args(x, Some(ty)), "*x: T");
+    let x = assigned(m, "x");
+    let ty = m.boxed(a_type(m));
+    m.printed(ParameterP::KwArgs(x, Some(ty)), "**x: T");
 }
 
 /// `for b in c`.
-fn for_clause(alloc: Global) -> Result<ForClause, Fail> {
-    let b = assigned(alloc, "b")?;
-    let over = name(alloc, "c")?;
-    Ok(ForClauseP {
+fn for_clause(m: &Maker<'_, impl Abort>) -> ForClause {
+    let b = assigned(m, "b");
+    let over = name(m, "c");
+    ForClauseP {
         var: target(b),
         over,
-    })
+    }
 }
 
 #[test]
-fn clauses(rt: HostRuntime) -> Result<(), Fail> {
-    let alloc = rt.alloc();
-    printed(&rt, alloc, for_clause(alloc)?, " for b in c")?;
-    let clause = ClauseP::For(for_clause(alloc)?);
-    printed(&rt, alloc, clause, " for b in c")?;
-    let clause = ClauseP::If(name(alloc, "d")?);
-    printed(&rt, alloc, clause, " if d")?;
-    Ok(())
+fn clauses(rt: HostRuntime) {
+    let m = &Maker::new(&rt, rt.alloc());
+    m.printed(for_clause(m), " for b in c");
+    let clause = ClauseP::For(for_clause(m));
+    m.printed(clause, " for b in c");
+    let clause = ClauseP::If(name(m, "d"));
+    m.printed(clause, " if d");
 }
 
 /// `a >= b`.
-fn comparison(alloc: Global) -> Result<Expr, Fail> {
-    let a = String::from_str(alloc, "a")?;
-    let b = String::from_str(alloc, "b")?;
-    let (a, b) = boxes(alloc, read(a), read(b))?;
-    Ok(ExprP::Op(a, BinOp::GreaterOrEqual, b))
+fn comparison(m: &Maker<'_, impl Abort>) -> Expr {
+    let a = m.boxed(name(m, "a"));
+    let b = m.boxed(name(m, "b"));
+    ExprP::Op(a, BinOp::GreaterOrEqual, b)
 }
 
 #[test]
-fn comparisons(rt: HostRuntime) -> Result<(), Fail> {
-    let alloc = rt.alloc();
-    printed(&rt, alloc, comparison(alloc)?, "(a >= b)")?;
-    Ok(())
+fn comparisons(rt: HostRuntime) {
+    let m = &Maker::new(&rt, rt.alloc());
+    m.printed(comparison(m), "(a >= b)");
 }
 
 #[test]
-fn returns(rt: HostRuntime) -> Result<(), Fail> {
+fn returns(rt: HostRuntime) {
+    let m = &Maker::new(&rt, rt.alloc());
     let bare: Stmt = StmtP::Return(None);
-    printed(&rt, rt.alloc(), bare, "return\n")?;
-    Ok(())
+    m.printed(bare, "return\n");
 }
 
 /// The operators of assignments, and what `a` and `b` with one between them print.
@@ -210,17 +194,16 @@ static CHANGES: [(AssignOp, &str); 11] = [
     (AssignOp::RightShift, "a >>= b\n"),
 ];
 
-fn change(alloc: Global, op: AssignOp) -> Result<Stmt, Fail> {
-    let a = assigned(alloc, "a")?;
-    let b = boxed(alloc, name(alloc, "b")?)?;
-    Ok(StmtP::AssignModify(target(a), op, b))
+fn change(m: &Maker<'_, impl Abort>, op: AssignOp) -> Stmt {
+    let a = assigned(m, "a");
+    let b = m.boxed(name(m, "b"));
+    StmtP::AssignModify(target(a), op, b)
 }
 
 #[test]
-fn changes(rt: HostRuntime) -> Result<(), Fail> {
-    let alloc = rt.alloc();
+fn changes(rt: HostRuntime) {
+    let m = &Maker::new(&rt, rt.alloc());
     for (op, want) in &CHANGES {
-        printed(&rt, alloc, change(alloc, *op)?, want)?;
+        m.printed(change(m, *op), want);
     }
-    Ok(())
 }

@@ -1,8 +1,7 @@
 //! What rules print, and the faults of types.
 
-use crate::common::{each_prints, prints};
+use crate::maker::Maker;
 use starlark_rules::rule::{Rule, TypeExprUnpackError};
-use std::test::Fail;
 
 /// The rules, and what each prints. That of types prints its fault.
 const RULES: [(Rule, &str); 38] = [
@@ -110,8 +109,8 @@ const RULES: [(Rule, &str); 38] = [
 ];
 
 #[test]
-fn rules(rt: HostRuntime) -> Result<(), Fail> {
-    Ok(each_prints(&rt, rt.alloc(), &RULES)?)
+fn rules(rt: HostRuntime) {
+    Maker::new(&rt, rt.alloc()).each_prints(&RULES);
 }
 
 /// The faults of types, and what each prints. The one that is not here says a path.
@@ -135,13 +134,11 @@ const FAULTS: [(TypeExprUnpackError, &str); 4] = [
 ];
 
 #[test]
-fn faults_of_types(rt: HostRuntime) -> Result<(), Fail> {
-    let alloc = rt.alloc();
-    each_prints(&rt, alloc, &FAULTS)?;
-    let path = String::from_str(alloc, "a.b")?;
-    let ban = TypeExprUnpackError::DotTypeBan(path);
+fn faults_of_types(rt: HostRuntime) {
+    let m = &Maker::new(&rt, rt.alloc());
+    m.each_prints(&FAULTS);
+    let ban = TypeExprUnpackError::DotTypeBan(m.text("a.b"));
     let want = "a type may not end in `.type`: write `a.b`";
-    prints(&rt, alloc, &ban, want)?;
-    prints(&rt, alloc, &Rule::TypeForm(ban), want)?;
-    Ok(())
+    m.prints(&ban, want);
+    m.prints(&Rule::TypeForm(ban), want);
 }

@@ -1,6 +1,7 @@
 //! Rules on trees that are made by hand, and what the calls that refuse by a rule say: the rule, and its place.
 
-use crate::common::{both, boxed, map_of, printed, span};
+use crate::common::span;
+use crate::maker::{Maker, leave};
 use starlark_ast::ast::{
     ArgumentP, AssignIdentP, AssignOp, AssignTargetP, AstAssignIdent, AstAssignTarget, AstExpr,
     AstLiteral, AstNoPayload, AstParameter, AstStmt, AstTypeExpr, CallArgsP, ExprP, IdentP,
@@ -18,9 +19,8 @@ use starlark_rules::def::DefParams;
 use starlark_rules::parameters::parameter_fault;
 use starlark_rules::rule::{Rule, RuleException};
 use starlark_rules::tree::rules_of;
-use std::alloc::{AllocError, Global};
+use std::alloc::Global;
 use std::process::Abort;
-use std::test::Fail;
 
 fn read(ident: String, span: Span) -> AstExpr {
     let ident = IdentP { ident, payload: () };
@@ -30,8 +30,8 @@ fn read(ident: String, span: Span) -> AstExpr {
     }
 }
 
-fn name(alloc: Global, text: &str, span: Span) -> Result<AstExpr, Fail> {
-    Ok(read(String::from_str(alloc, text)?, span))
+fn name(m: &Maker<'_, impl Abort>, text: &str, span: Span) -> AstExpr {
+    read(m.text(text), span)
 }
 
 fn one(span: Span) -> AstExpr {
@@ -44,19 +44,16 @@ fn one(span: Span) -> AstExpr {
 }
 
 /// `(a, [b])`.
-fn nested(alloc: Global) -> Result<AstExpr, Fail> {
-    let mut inner = Vec::new(alloc);
-    inner.push(name(alloc, "b", span(5, 6))?)?;
-    let mut outer = Vec::new(alloc);
-    outer.push(name(alloc, "a", span(1, 2))?)?;
-    outer.push(Spanned {
+fn nested(m: &Maker<'_, impl Abort>) -> AstExpr {
+    let a = name(m, "a", span(1, 2));
+    let inner = Spanned {
         span: span(4, 7),
-        node: ExprP::List(inner),
-    })?;
-    Ok(Spanned {
+        node: ExprP::List(m.one(name(m, "b", span(5, 6)))),
+    };
+    Spanned {
         span: span(0, 8),
-        node: ExprP::Tuple(outer),
-    })
+        node: ExprP::Tuple(m.both(a, inner)),
+    }
 }
 
 fn is_name(x: &AstAssignTarget, text: &str, at: Span) -> bool {
@@ -68,65 +65,69 @@ fn is_name(x: &AstAssignTarget, text: &str, at: Span) -> bool {
 
 /// `if x: pass` stands at top level.
 #[test]
-fn late(rt: HostRuntime) -> Result<(), Fail> {
+fn late(rt: HostRuntime) {
     let alloc = rt.alloc();
+    let m = &Maker::new(&rt, alloc);
     let body = Spanned {
         span: span(6, 10),
         node: StmtP::Pass,
     };
     let tree: AstStmt = Spanned {
         span: span(0, 11),
-        node: StmtP::If(name(alloc, "x", span(3, 4))?, Box::new(alloc, body)?),
+        node: StmtP::If(name(m, "x", span(3, 4)), m.boxed(body)),
     };
-    let found = rules_of(alloc, &tree, &Dialect::Standard)?;
+    let found = m.made(rules_of(alloc, &tree, &Dialect::Standard));
     assert_eq!(rt; found.len(), 1);
     assert_eq!(rt; found[0].span, span(0, 11));
     assert!(rt; matches!(found[0].node, Rule::IfOutsideDef));
-    assert!(rt; rules_of(alloc, &tree, &Dialect::Extended)?.is_empty());
-    Ok(())
+    let found = m.made(rules_of(alloc, &tree, &Dialect::Extended));
+    assert!(rt; found.is_empty());
+    leave(tree);
 }
 
 #[test]
-fn targets(rt: HostRuntime) -> Result<(), Fail> {
+fn targets(rt: HostRuntime) {
     let alloc = rt.alloc();
-    let map = map_of(alloc, 0, "t", "(a, [b]) = c")?;
-    let left = nested(alloc)?;
-    assert!(&rt; target_fault(&left).is_none());
+    let m = &Maker::new(&rt, alloc);
+    let map = m.map_of(0, "t", "(a, [b]) = c");
+    let left = nested(m);
+    assert!(rt; target_fault(&left).is_none());
     let Ok(target) = check_assign(alloc, &map, left) else {
-        return Err(Fail::from(AllocError));
+        panic!(rt; "it is refused")
     };
     let AssignTargetP::Tuple(outer) = &target.node else {
-        return Err(Fail::from(AllocError));
+        panic!(rt; "it is no tuple")
     };
     assert_eq!(rt; outer.len(), 2);
     assert!(rt; is_name(&outer[0], "a", span(1, 2)));
     let AssignTargetP::Tuple(inner) = &outer[1].node else {
-        return Err(Fail::from(AllocError));
+        panic!(rt; "there is no tuple in it")
     };
     assert_eq!(rt; outer[1].span, span(4, 7));
     assert_eq!(rt; inner.len(), 1);
     assert!(rt; is_name(&inner[0], "b", span(5, 6)));
-    Ok(())
+    leave(target);
 }
 
 /// `x = 1`.
 #[test]
-fn assignments(rt: HostRuntime) -> Result<(), Fail> {
+fn assignments(rt: HostRuntime) {
     let alloc = rt.alloc();
-    let map = map_of(alloc, 0, "t", "x = 1")?;
-    let left = name(alloc, "x", span(0, 1))?;
+    let m = &Maker::new(&rt, alloc);
+    let map = m.map_of(0, "t", "x = 1");
+    let left = name(m, "x", span(0, 1));
     let right = one(span(4, 5));
-    assert!(&rt; assignment_fault(&left, &None, None).is_none());
-    let Ok(made) = check_assignment(alloc, &map, left, None, None, right) else {
-        return Err(Fail::from(AllocError));
+    assert!(rt; assignment_fault(&left, &None, None).is_none());
+    let Ok(tree) = check_assignment(alloc, &map, left, None, None, right) else {
+        panic!(rt; "it is refused")
     };
-    let StmtP::Assign(made) = &made else {
-        return Err(Fail::from(AllocError));
+    let StmtP::Assign(made) = &tree else {
+        panic!(rt; "it is no assignment")
     };
     assert!(rt; is_name(&made.lhs, "x", span(0, 1)));
     assert!(rt; made.ty.is_none());
     assert!(rt; matches!(made.rhs.node, ExprP::Literal(_)));
-    Ok(())
+    leave(tree);
 }
 
 /// The rule of a refusal, which stands there.
@@ -143,20 +144,20 @@ fn rule_at<'a>(rt: &impl Abort, refusal: &'a RuleException, at: Span) -> &'a Rul
 
 /// `1 = a`.
 #[test]
-fn refused_target(rt: HostRuntime) -> Result<(), Fail> {
+fn refused_target(rt: HostRuntime) {
     let alloc = rt.alloc();
-    let map = map_of(alloc, 0, "t", "1 = a")?;
+    let m = &Maker::new(&rt, alloc);
+    let map = m.map_of(0, "t", "1 = a");
     let left = one(span(0, 1));
     let Some(found) = target_fault(&left) else {
         panic!(rt; "it breaks no rule")
     };
-    assert!(&rt; map.holds(found.span));
+    assert!(rt; map.holds(found.span));
     let Err(refusal) = check_assign(alloc, &map, left) else {
         panic!(rt; "it is taken")
     };
     let rule = rule_at(&rt, &refusal, span(0, 1));
     assert!(rt; matches!(rule, Rule::InvalidLhs));
-    Ok(())
 }
 
 /// The refusal of an assignment by `+=` that breaks a rule.
@@ -180,50 +181,46 @@ fn refused(
 }
 
 /// `a, b`.
-fn several(alloc: Global) -> Result<AstExpr, Fail> {
-    let a = String::from_str(alloc, "a")?;
-    let b = String::from_str(alloc, "b")?;
-    let members = both(alloc, read(a, span(0, 1)), read(b, span(3, 4)))?;
-    Ok(Spanned {
+fn several(m: &Maker<'_, impl Abort>) -> AstExpr {
+    let members = m.both(name(m, "a", span(0, 1)), name(m, "b", span(3, 4)));
+    Spanned {
         span: span(0, 4),
         node: ExprP::Tuple(members),
-    })
+    }
 }
 
 /// `a, b += 1`.
 #[test]
-fn refused_change_of_several(rt: HostRuntime) -> Result<(), Fail> {
+fn refused_change_of_several(rt: HostRuntime) {
     let alloc = rt.alloc();
-    let map = map_of(alloc, 0, "t", "a, b += 1")?;
-    let left = several(alloc)?;
+    let m = &Maker::new(&rt, alloc);
+    let map = m.map_of(0, "t", "a, b += 1");
+    let left = several(m);
     let refusal = refused(&rt, alloc, &map, left, None, one(span(8, 9)));
     let rule = rule_at(&rt, &refusal, span(0, 4));
     assert!(rt; matches!(rule, Rule::InvalidModifyLhs));
-    Ok(())
 }
 
 /// `x`, and behind a colon the type `int`.
-fn typed(alloc: Global) -> Result<(AstExpr, Box<AstTypeExpr>), Fail> {
-    let x = String::from_str(alloc, "x")?;
-    let expr = name(alloc, "int", span(3, 6))?;
+fn typed(m: &Maker<'_, impl Abort>) -> (AstExpr, Box<AstTypeExpr>) {
+    let expr = name(m, "int", span(3, 6));
     let ty = Spanned {
         span: span(3, 6),
         node: TypeExprP { expr, payload: () },
     };
-    let ty = boxed(alloc, ty)?;
-    Ok((read(x, span(0, 1)), ty))
+    (name(m, "x", span(0, 1)), m.boxed(ty))
 }
 
 /// `x: int += 1`.
 #[test]
-fn refused_change_with_type(rt: HostRuntime) -> Result<(), Fail> {
+fn refused_change_with_type(rt: HostRuntime) {
     let alloc = rt.alloc();
-    let map = map_of(alloc, 0, "t", "x: int += 1")?;
-    let (left, ty) = typed(alloc)?;
+    let m = &Maker::new(&rt, alloc);
+    let map = m.map_of(0, "t", "x: int += 1");
+    let (left, ty) = typed(m);
     let refusal = refused(&rt, alloc, &map, left, Some(ty), one(span(10, 11)));
     let rule = rule_at(&rt, &refusal, span(3, 6));
     assert!(rt; matches!(rule, Rule::TypeAnnotationOnAssignOp));
-    Ok(())
 }
 
 /// An assignment that breaks no rule.
@@ -245,32 +242,32 @@ fn taken(
 
 /// `x += 1`.
 #[test]
-fn change(rt: HostRuntime) -> Result<(), Fail> {
+fn change(rt: HostRuntime) {
     let alloc = rt.alloc();
-    let map = map_of(alloc, 0, "t", "x += 1")?;
-    let left = name(alloc, "x", span(0, 1))?;
+    let m = &Maker::new(&rt, alloc);
+    let map = m.map_of(0, "t", "x += 1");
+    let left = name(m, "x", span(0, 1));
     let op = Some(AssignOp::Add);
     let made = taken(&rt, alloc, &map, left, None, op, one(span(5, 6)));
-    printed(&rt, alloc, made, "x += 1\n")?;
-    Ok(())
+    m.printed(made, "x += 1\n");
 }
 
 /// `x: int = 1`.
 #[test]
-fn assignment_with_type(rt: HostRuntime) -> Result<(), Fail> {
+fn assignment_with_type(rt: HostRuntime) {
     let alloc = rt.alloc();
-    let map = map_of(alloc, 0, "t", "x: int = 1")?;
-    let (left, ty) = typed(alloc)?;
+    let m = &Maker::new(&rt, alloc);
+    let map = m.map_of(0, "t", "x: int = 1");
+    let (left, ty) = typed(m);
     let made = taken(&rt, alloc, &map, left, Some(ty), None, one(span(9, 10)));
-    printed(&rt, alloc, made, "x : int = 1\n")?;
-    Ok(())
+    m.printed(made, "x : int = 1\n");
 }
 
 /// `a=1, 2`, as in `f(a=1, 2)`.
-fn arguments(alloc: Global) -> Result<CallArgsP<AstNoPayload>, Fail> {
+fn arguments(m: &Maker<'_, impl Abort>) -> CallArgsP<AstNoPayload> {
     let name = Spanned {
         span: span(2, 3),
-        node: String::from_str(alloc, "a")?,
+        node: m.text("a"),
     };
     let named = Spanned {
         span: span(2, 5),
@@ -280,31 +277,32 @@ fn arguments(alloc: Global) -> Result<CallArgsP<AstNoPayload>, Fail> {
         span: span(7, 8),
         node: ArgumentP::Positional(one(span(7, 8))),
     };
-    let args = both(alloc, named, positional)?;
-    Ok(CallArgsP { args })
+    let args = m.both(named, positional);
+    CallArgsP { args }
 }
 
 #[test]
-fn refused_arguments(rt: HostRuntime) -> Result<(), Fail> {
+fn refused_arguments(rt: HostRuntime) {
     let alloc = rt.alloc();
-    let map = map_of(alloc, 0, "t", "f(a=1, 2)")?;
-    let args = arguments(alloc)?;
+    let m = &Maker::new(&rt, alloc);
+    let map = m.map_of(0, "t", "f(a=1, 2)");
+    let args = arguments(m);
     let Some(found) = call_fault(&args.args) else {
         panic!(rt; "they break no rule")
     };
-    assert!(&rt; map.holds(found.span));
+    assert!(rt; map.holds(found.span));
     let Err(refusal) = CallArgsUnpack::unpack(alloc, &args, &map) else {
         panic!(rt; "they are taken")
     };
     let rule = rule_at(&rt, &refusal, span(7, 8));
     assert!(rt; matches!(rule, Rule::PositionalAfterNonPositional));
-    Ok(())
+    leave(args);
 }
 
-fn assigned(alloc: Global, text: &str, span: Span) -> Result<AstAssignIdent, Fail> {
-    let ident = String::from_str(alloc, text)?;
+fn assigned(m: &Maker<'_, impl Abort>, text: &str, span: Span) -> AstAssignIdent {
+    let ident = m.text(text);
     let node = AssignIdentP { ident, payload: () };
-    Ok(Spanned { span, node })
+    Spanned { span, node }
 }
 
 fn parameter(name: AstAssignIdent) -> AstParameter {
@@ -316,20 +314,21 @@ fn parameter(name: AstAssignIdent) -> AstParameter {
 
 /// `def f(a, a): pass`.
 #[test]
-fn refused_parameters(rt: HostRuntime) -> Result<(), Fail> {
+fn refused_parameters(rt: HostRuntime) {
     let alloc = rt.alloc();
-    let map = map_of(alloc, 0, "t", "def f(a, a): pass")?;
-    let first = assigned(alloc, "a", span(6, 7))?;
-    let second = assigned(alloc, "a", span(9, 10))?;
-    let params = both(alloc, parameter(first), parameter(second))?;
+    let m = &Maker::new(&rt, alloc);
+    let map = m.map_of(0, "t", "def f(a, a): pass");
+    let first = assigned(m, "a", span(6, 7));
+    let second = assigned(m, "a", span(9, 10));
+    let params = m.both(parameter(first), parameter(second));
     let Some(found) = parameter_fault(&params) else {
         panic!(rt; "they break no rule")
     };
-    assert!(&rt; map.holds(found.span));
+    assert!(rt; map.holds(found.span));
     let Err(refusal) = DefParams::unpack(alloc, &params, &map) else {
         panic!(rt; "they are taken")
     };
     let rule = rule_at(&rt, &refusal, span(9, 10));
     assert!(rt; matches!(rule, Rule::DuplicatedName));
-    Ok(())
+    leave(params);
 }

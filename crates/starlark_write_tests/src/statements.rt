@@ -1,6 +1,7 @@
-//! What stands in a statement once a closure has written to it, over trees that are parsed. A tree is forgotten in the end, and so
-//! is what a closure puts something else in the place of: how trees are let go is proved anew in each crate that does so.
+//! What stands in a statement once a closure has written to it, over trees that are parsed. A tree is left in the end, and so is
+//! what a closure puts something else in the place of: how trees are let go is proved anew in each crate that does so.
 
+use crate::maker::{Maker, leave};
 use starlark_lexer::dialect::Dialect;
 use starlark_parser::ast::ast::{AstExpr, AstStmt, AstTypeExpr, ExprP, StmtP};
 use starlark_parser::fields::AstModuleFields;
@@ -13,7 +14,6 @@ use starlark_write::type_exprs::VisitTypeExprErrMut;
 use starlark_write::visit_mut::VisitExprMut;
 use std::alloc::{AllocError, Global};
 use std::mem;
-use std::process::Abort;
 use std::test::Fail;
 
 /// The tree of a text, in the dialect that has all.
@@ -29,20 +29,12 @@ fn tree(alloc: Global, text: &str) -> Result<AstStmt, Fail> {
     }
 }
 
-/// Sees what the tree prints, and forgets it.
-fn printed(rt: &impl Abort, alloc: Global, tree: AstStmt, want: &str) -> Result<(), AllocError> {
-    let text = tree.node.to_string(alloc);
-    mem::forget(tree);
-    assert_eq!(rt; text?.as_str(), want);
-    Ok(())
-}
-
 fn pass(x: &mut AstStmt) {
-    mem::forget(mem::replace(&mut x.node, StmtP::Pass))
+    leave(mem::replace(&mut x.node, StmtP::Pass))
 }
 
 fn empty(alloc: Global, x: &mut AstExpr) {
-    mem::forget(mem::replace(&mut x.node, ExprP::Tuple(Vec::new(alloc))))
+    leave(mem::replace(&mut x.node, ExprP::Tuple(Vec::new(alloc))))
 }
 
 // empties each node, and stops at the third
@@ -87,22 +79,27 @@ fn noted(so_far: u64, begin: u32) -> u64 {
 #[test]
 fn top_statements(rt: HostRuntime) -> Result<(), Fail> {
     let alloc = rt.alloc();
+    let m = Maker::new(&rt, alloc);
     let mut tree = tree(alloc, "a; b")?;
     top_level_stmts_mut(&mut tree, &mut |x: &mut AstStmt| pass(x));
-    Ok(printed(&rt, alloc, tree, "pass\npass\n")?)
+    m.printed(tree.node, "pass\npass\n");
+    Ok(())
 }
 
 #[test]
 fn statements_below(rt: HostRuntime) -> Result<(), Fail> {
     let alloc = rt.alloc();
+    let m = Maker::new(&rt, alloc);
     let mut tree = tree(alloc, "if a:\n  b\nelse:\n  c\n")?;
     visit_stmt_mut(&mut tree.node, &mut |x: &mut AstStmt| pass(x));
-    Ok(printed(&rt, alloc, tree, "if a:\n  pass\nelse:\n  pass\n")?)
+    m.printed(tree.node, "if a:\n  pass\nelse:\n  pass\n");
+    Ok(())
 }
 
 #[test]
 fn stops_below(rt: HostRuntime) -> Result<(), Fail> {
     let alloc = rt.alloc();
+    let m = Maker::new(&rt, alloc);
     let mut tree = tree(alloc, "a; b; c")?;
     let mut calls = 0u64;
     let answer = visit_stmt_err_mut(
@@ -118,21 +115,25 @@ fn stops_below(rt: HostRuntime) -> Result<(), Fail> {
     );
     assert_eq!(rt; answer, Err(2));
     assert_eq!(rt; calls, 2);
-    Ok(printed(&rt, alloc, tree, "pass\nb\nc\n")?)
+    m.printed(tree.node, "pass\nb\nc\n");
+    Ok(())
 }
 
 #[test]
 fn outermost_expressions(rt: HostRuntime) -> Result<(), Fail> {
     let alloc = rt.alloc();
+    let m = Maker::new(&rt, alloc);
     let mut tree = tree(alloc, "x = a + b\nif c:\n  d\n")?;
     tree.node
         .visit_expr_mut(&mut |x: &mut AstExpr| empty(alloc, x));
-    Ok(printed(&rt, alloc, tree, "x = ()\nif ():\n  ()\n")?)
+    m.printed(tree.node, "x = ()\nif ():\n  ()\n");
+    Ok(())
 }
 
 #[test]
 fn types(rt: HostRuntime) -> Result<(), Fail> {
     let alloc = rt.alloc();
+    let m = Maker::new(&rt, alloc);
     let mut tree = tree(alloc, "def f(a: t) -> r: pass")?;
     let mut seen = 0;
     let answer = tree
@@ -143,26 +144,31 @@ fn types(rt: HostRuntime) -> Result<(), Fail> {
         });
     assert_eq!(rt; answer, Ok(()));
     assert_eq!(rt; seen, 9_15);
-    Ok(printed(&rt, alloc, tree, "def f(a: t) -> r:\n  pass\n")?)
+    m.printed(tree.node, "def f(a: t) -> r:\n  pass\n");
+    Ok(())
 }
 
 #[test]
 fn nodes_below(rt: HostRuntime) -> Result<(), Fail> {
     let alloc = rt.alloc();
+    let m = Maker::new(&rt, alloc);
     let mut tree = tree(alloc, "for x[0] in y: z")?;
     let mut empties = Empties { alloc, calls: 3 };
     let answer = tree.node.lend_children_mut(&mut empties);
     assert_eq!(rt; answer, Ok(()));
     assert_eq!(rt; empties.calls, 7);
-    Ok(printed(&rt, alloc, tree, "for ()[()] in ():\n  pass\n")?)
+    m.printed(tree.node, "for ()[()] in ():\n  pass\n");
+    Ok(())
 }
 
 #[test]
 fn stops_at_a_node(rt: HostRuntime) -> Result<(), Fail> {
     let alloc = rt.alloc();
+    let m = Maker::new(&rt, alloc);
     let mut tree = tree(alloc, "if a:\n  b\nelse:\n  c\n")?;
     let mut empties = Empties { alloc, calls: 0 };
     let answer = tree.node.lend_children_mut(&mut empties);
     assert_eq!(rt; answer, Err(3));
-    Ok(printed(&rt, alloc, tree, "if ():\n  pass\nelse:\n  c\n")?)
+    m.printed(tree.node, "if ():\n  pass\nelse:\n  c\n");
+    Ok(())
 }
