@@ -3,29 +3,7 @@
 ghost use Rattle.std.specs.Prelude.{◌≡◌, ◌≤◌};
 ghost use Rattle.starlark_place.specs.Place.{extent};
 
-use starlark_place::codemap::{CodeMap, CodeMapId};
 use starlark_place::pos::{Pos, Span};
-use std::alloc::{AllocError, Global};
-use std::fmt::Display;
-use std::process::Abort;
-use std::test::Fail;
-
-pub(crate) fn map_of(alloc: Global, id: u64, name: &str, source: &str) -> Result<CodeMap, Fail> {
-    let name = String::from_str(alloc, name)?;
-    let source = String::from_str(alloc, source)?;
-    Ok(CodeMap::new(alloc, CodeMapId(id), name, source)?)
-}
-
-pub(crate) fn prints(
-    rt: &impl Abort,
-    alloc: Global,
-    x: &impl Display,
-    want: &str,
-) -> Result<(), AllocError> {
-    let text = x.to_string(alloc)?;
-    assert_eq!(rt; text.as_str(), want);
-    Ok(())
-}
 
 pub(crate) fn span(begin: u32, end: u32) -> Span
     requires { begin ≤ end }

@@ -1,5 +1,6 @@
 //! Format strings.
 
+use crate::check::{equal, equal_in, holds_in};
 use starlark_lexer::format::{EscapeCurlyBrace, FormatError, FormatErrorKind, FormatParser};
 use std::alloc::Global;
 use std::fmt::Write;
@@ -44,7 +45,7 @@ static TOKENS: [(&str, &str); 5] = [
 #[test]
 fn tokens(rt: HostRuntime) -> Result<(), Fail> {
     for (text, want) in &TOKENS {
-        assert_eq!(rt; cut(rt.alloc(), text)?.as_str(), *want, "{text}");
+        equal_in(&rt, text, cut(rt.alloc(), text)?.as_str(), *want);
     }
     Ok(())
 }
@@ -112,12 +113,12 @@ fn errors(rt: HostRuntime) -> Result<(), Fail> {
     for (text, before, kind, shown) in &ERRORS {
         let mut parser = FormatParser::new(text);
         for _ in 0..*before {
-            assert!(rt; matches!(parser.next(), Ok(Some(_))), "{text}");
+            holds_in(&rt, text, matches!(parser.next(), Ok(Some(_))));
         }
         for _ in 0..2 {
             let error = FormatError { kind: *kind, text };
-            assert_eq!(rt; parser.next(), Err(error), "{text}");
-            assert_eq!(rt; error.to_string(rt.alloc())?.as_str(), *shown);
+            equal_in(&rt, text, parser.next(), Err(error));
+            equal(&rt, error.to_string(rt.alloc())?.as_str(), *shown);
         }
     }
     Ok(())
@@ -129,7 +130,7 @@ fn braces(rt: HostRuntime) {
         (EscapeCurlyBrace::Open, "{", "{{"),
         (EscapeCurlyBrace::Close, "}", "}}"),
     ] {
-        assert_eq!(rt; brace.as_str(), one);
-        assert_eq!(rt; brace.back_to_escape(), two);
+        equal(&rt, brace.as_str(), one);
+        equal(&rt, brace.back_to_escape(), two);
     }
 }

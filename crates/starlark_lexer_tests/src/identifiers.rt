@@ -1,38 +1,41 @@
 //! Texts that are one identifier.
 
+use crate::check::equal_in;
 use starlark_lexer::identifier::lex_exactly_one_identifier;
 use std::test::Fail;
 
-/// Texts that are the identifier `foo`, with blanks around it.
-static PADDED: [&str; 3] = ["foo", " foo ", "\t\rfoo\r \t"];
-
-/// Texts that are one identifier, with nothing around it.
-static WORDS: [&str; 5] = ["_", "a1_B", "True", "iffy", "x"];
-
-/// Texts that are not one identifier.
-static OTHERS: [&str; 11] = [
-    "foo bar", "not", "123", "", " ", "1a", "class", "a\n", "é", "a.b", "if",
+/// Texts, and the identifier that each is, with blanks around it or none; or that it is none.
+static TEXTS: [(&str, Option<&str>); 19] = [
+    ("foo", Some("foo")),
+    (" foo ", Some("foo")),
+    ("\t\rfoo\r \t", Some("foo")),
+    ("_", Some("_")),
+    ("a1_B", Some("a1_B")),
+    ("True", Some("True")),
+    ("iffy", Some("iffy")),
+    ("x", Some("x")),
+    ("foo bar", None),
+    ("not", None),
+    ("123", None),
+    ("", None),
+    (" ", None),
+    ("1a", None),
+    ("class", None),
+    ("a\n", None),
+    ("é", None),
+    ("a.b", None),
+    ("if", None),
 ];
 
 #[test]
 fn identifiers(rt: HostRuntime) -> Result<(), Fail> {
-    for text in &PADDED {
+    for (text, wanted) in &TEXTS {
         let found = lex_exactly_one_identifier(rt.alloc(), text)?;
-        assert!(rt;
-            matches!(&found, Some(word) if word.as_str() == "foo"),
-            "{text}"
-        );
-    }
-    for text in &WORDS {
-        let found = lex_exactly_one_identifier(rt.alloc(), text)?;
-        assert!(rt;
-            matches!(&found, Some(word) if word.as_str() == *text),
-            "{text}"
-        );
-    }
-    for text in &OTHERS {
-        let found = lex_exactly_one_identifier(rt.alloc(), text)?;
-        assert!(rt; found.is_none(), "{text}");
+        let word = match &found {
+            Some(word) => Some(word.as_str()),
+            None => None,
+        };
+        equal_in(&rt, text, word, *wanted);
     }
     Ok(())
 }

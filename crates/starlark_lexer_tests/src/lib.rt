@@ -1,8 +1,11 @@
-//! Tests of the public calls of places and of the lexer, of what no stream of texts can tell: closures, what places and
-//! errors print, calls on strings, readings of one number or one name. It has no code of its own, so the crates below are
-//! proved once, and it is proved beside the trees.
+//! Tests of the public calls of places and of the lexer, of what no stream of texts can tell. It has no code of its own, so that the
+//! crates below are proved once.
 #![tactic(auto)]
 
+#[cfg(test)]
+mod check;
+#[cfg(test)]
+mod codemaps;
 #[cfg(test)]
 mod common;
 #[cfg(test)]
@@ -12,9 +15,9 @@ mod formats;
 #[cfg(test)]
 mod identifiers;
 #[cfg(test)]
-mod lexing;
+mod lexer;
 #[cfg(test)]
-mod maps;
+mod maker;
 #[cfg(test)]
 mod numbers;
 #[cfg(test)]

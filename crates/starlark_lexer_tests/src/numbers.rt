@@ -1,5 +1,7 @@
 //! Integers of a base, and what they print.
 
+use crate::check::equal_in;
+use crate::maker::Maker;
 use starlark_lexer::number::TokenIntError;
 use starlark_lexer::token::{Token, TokenInt};
 use std::test::Fail;
@@ -22,7 +24,7 @@ static SMALL: [(&str, u32, i32); 10] = [
 fn small_values(rt: HostRuntime) -> Result<(), Fail> {
     for (text, base, value) in &SMALL {
         let read = TokenInt::from_str_radix(rt.alloc(), text, *base)?;
-        assert_eq!(rt; read, TokenInt::I32(*value), "{text}");
+        equal_in(&rt, text, read, TokenInt::I32(*value));
     }
     Ok(())
 }
@@ -52,7 +54,7 @@ fn other_values(rt: HostRuntime) -> Result<(), Fail> {
             negative: *negative,
             radix: *base,
         };
-        assert_eq!(rt; read, wanted, "{text}");
+        equal_in(&rt, text, read, wanted);
     }
     Ok(())
 }
@@ -76,43 +78,40 @@ static NONE: [(&str, u32); 11] = [
 fn no_integers(rt: HostRuntime) -> Result<(), Fail> {
     for (text, base) in &NONE {
         let read = TokenInt::from_str_radix(rt.alloc(), text, *base);
-        assert_eq!(rt; read, Err(TokenIntError::CannotParse), "{text}");
+        equal_in(&rt, text, read, Err(TokenIntError::CannotParse));
     }
     Ok(())
 }
 
+/// The errors, and what each prints.
+static ERRORS: [(TokenIntError, &str); 2] = [
+    (TokenIntError::CannotParse, "cannot parse integer"),
+    (TokenIntError::Memory, "out of memory"),
+];
+
 #[test]
-fn texts_of_errors(rt: HostRuntime) -> Result<(), Fail> {
-    let cases = [
-        (TokenIntError::CannotParse, "cannot parse integer"),
-        (TokenIntError::Memory, "out of memory"),
-    ];
-    for (error, text) in cases {
-        let shown = format!(in rt.alloc(); "{error}")?;
-        assert_eq!(rt; shown.as_str(), text);
-    }
-    Ok(())
+fn texts_of_errors(rt: HostRuntime) {
+    Maker::new(&rt, rt.alloc()).each_prints(&ERRORS);
 }
 
-/// What numbers print that no lexeme gives.
+/// Bases and signs of numbers that no lexeme gives, and what those of the digits `ff` print.
+static PRINTED: [(u32, bool, &str); 4] = [
+    (16, false, "0xff"),
+    (8, true, "-0off"),
+    (2, false, "0bff"),
+    (10, true, "-ff"),
+];
+
 #[test]
-fn printed(rt: HostRuntime) -> Result<(), Fail> {
-    let alloc = rt.alloc();
-    let small = Token::Int(TokenInt::I32(-1));
-    assert_eq!(rt; small.to_string(alloc)?.as_str(), "integer literal '-1'");
-    for (radix, negative, text) in [
-        (16, false, "0xff"),
-        (8, true, "-0off"),
-        (2, false, "0bff"),
-        (10, true, "-ff"),
-    ] {
-        let digits = String::from_str(alloc, "ff")?;
+fn printed(rt: HostRuntime) {
+    let m = Maker::new(&rt, rt.alloc());
+    m.printed(Token::Int(TokenInt::I32(-1)), "integer literal '-1'");
+    for (radix, negative, text) in &PRINTED {
         let number = TokenInt::BigInt {
-            digits,
-            negative,
-            radix,
+            digits: m.text("ff"),
+            negative: *negative,
+            radix: *radix,
         };
-        assert_eq!(rt; number.to_string(alloc)?.as_str(), text);
+        m.printed(number, text);
     }
-    Ok(())
 }

@@ -1,9 +1,10 @@
 //! Spans, and what places print.
 
-use crate::common::{prints, span};
+use crate::check::equal;
+use crate::common::span;
+use crate::maker::Maker;
 use starlark_place::pos::{Span, Spanned};
 use starlark_place::resolved::{ResolvedPos, ResolvedSpan};
-use std::test::Fail;
 
 /// Lines and columns of a span's begin and end, all from 0, and what it prints.
 static PRINTED: [(usize, usize, usize, usize, &str); 4] = [
@@ -20,7 +21,8 @@ static PRINTED: [(usize, usize, usize, usize, &str); 4] = [
 ];
 
 #[test]
-fn printed_spans(rt: HostRuntime) -> Result<(), Fail> {
+fn printed_spans(rt: HostRuntime) {
+    let m = Maker::new(&rt, rt.alloc());
     for (line, column, end_line, end_column, want) in &PRINTED {
         let begin = ResolvedPos {
             line: *line,
@@ -30,22 +32,21 @@ fn printed_spans(rt: HostRuntime) -> Result<(), Fail> {
             line: *end_line,
             column: *end_column,
         };
-        prints(&rt, rt.alloc(), &ResolvedSpan { begin, end }, want)?;
+        m.prints(&ResolvedSpan { begin, end }, want);
     }
-    prints(&rt, rt.alloc(), &ResolvedPos { line: 0, column: 4 }, "1:5")?;
-    Ok(())
+    m.prints(&ResolvedPos { line: 0, column: 4 }, "1:5");
 }
 
 #[test]
 fn spans(rt: HostRuntime) {
-    assert_eq!(rt; Span::merge_all([].iter().copied()), span(0, 0));
+    equal(&rt, Span::merge_all([].iter().copied()), span(0, 0));
     let three = [span(3, 4), span(1, 2), span(2, 6)];
-    assert_eq!(rt; Span::merge_all(three.iter().copied()), span(1, 6));
+    equal(&rt, Span::merge_all(three.iter().copied()), span(1, 6));
     let mut place = Spanned {
         span: span(1, 2),
         node: 3u8,
     };
     *place = 4;
-    assert_eq!(rt; *place.as_ref().node, 4);
-    assert_eq!(rt; place.map(|n| n / 2).node, 2);
+    equal(&rt, *place.as_ref().node, 4);
+    equal(&rt, place.map(|n| n / 2).node, 2);
 }

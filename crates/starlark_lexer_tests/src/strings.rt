@@ -1,21 +1,33 @@
 //! Calls on strings, and cursors.
 
+use crate::check::{equal, holds};
 use starlark_place::cursor::{CursorBytes, CursorChars};
 use starlark_place::fast_string;
 use starlark_place::fast_string::CharIndex;
 
 #[test]
 fn indices(rt: HostRuntime) {
-    assert_eq!(rt; fast_string::convert_indices(10, Some(-3), None), (7, 10));
-    assert_eq!(rt; fast_string::convert_indices(5, Some(3), Some(1)), (3, 1));
-    assert_eq!(rt; fast_string::convert_index(10, -20), 0);
+    equal(
+        &rt,
+        fast_string::convert_indices(10, Some(-3), None),
+        (7, 10),
+    );
+    equal(
+        &rt,
+        fast_string::convert_indices(5, Some(3), Some(1)),
+        (3, 1),
+    );
+    equal(&rt, fast_string::convert_index(10, -20), 0);
     let cut = fast_string::convert_str_indices("héllo", Some(1), Some(-1));
-    assert!(&rt; cut.is_some());
+    holds(&rt, cut.is_some());
     if let Some(cut) = cut {
-        assert_eq!(&rt; cut.start, CharIndex(1));
-        assert_eq!(&rt; cut.haystack, "éll");
+        equal(&rt, cut.start, CharIndex(1));
+        equal(&rt, cut.haystack, "éll");
     }
-    assert!(&rt; fast_string::convert_str_indices("abc", Some(4), None).is_none());
+    holds(
+        &rt,
+        fast_string::convert_str_indices("abc", Some(4), None).is_none(),
+    );
 }
 
 /// Texts and needles, how often one stands in the other, and whether it does.
@@ -30,32 +42,36 @@ static NEEDLES: [(&str, &str, usize, bool); 5] = [
 #[test]
 fn needles(rt: HostRuntime) {
     for (text, needle, count, within) in &NEEDLES {
-        assert_eq!(&rt; fast_string::count_matches(text, needle), *count);
-        assert_eq!(&rt; fast_string::contains(text, needle), *within);
+        equal(&rt, fast_string::count_matches(text, needle), *count);
+        equal(&rt, fast_string::contains(text, needle), *within);
     }
 }
 
 #[test]
 fn strings(rt: HostRuntime) {
-    assert_eq!(rt; fast_string::split_at("né", CharIndex(2)), Some(("né", "")));
-    assert_eq!(rt; fast_string::split_at("né", CharIndex(3)), None);
-    assert_eq!(rt; fast_string::at("né", CharIndex(1)), Some('é'));
-    assert_eq!(rt; fast_string::at("né", CharIndex(2)), None);
+    equal(
+        &rt,
+        fast_string::split_at("né", CharIndex(2)),
+        Some(("né", "")),
+    );
+    equal(&rt, fast_string::split_at("né", CharIndex(3)), None);
+    equal(&rt, fast_string::at("né", CharIndex(1)), Some('é'));
+    equal(&rt, fast_string::at("né", CharIndex(2)), None);
     let long = "né, né, né, né, né, né, né, né, né, né, né, né";
-    assert_eq!(rt; fast_string::len(long), CharIndex(46));
-    assert_eq!(rt; fast_string::count_matches_byte(long, b'n'), 12);
+    equal(&rt, fast_string::len(long), CharIndex(46));
+    equal(&rt, fast_string::count_matches_byte(long, b'n'), 12);
 }
 
 #[test]
 fn cursors(rt: HostRuntime) {
     let mut bytes = CursorBytes::new("aé");
-    assert_eq!(rt; bytes.next_char(), Some('a'));
-    assert_eq!(rt; bytes.next(), Some(195));
-    assert_eq!(rt; bytes.pos(), 2);
+    equal(&rt, bytes.next_char(), Some('a'));
+    equal(&rt, bytes.next(), Some(195));
+    equal(&rt, bytes.pos(), 2);
     let mut chars = CursorChars::new_offset("aé", 0);
-    assert_eq!(rt; chars.peek(), Some('a'));
-    assert_eq!(rt; chars.next(), Some('a'));
-    assert_eq!(rt; chars.next(), Some('é'));
-    assert_eq!(rt; chars.next(), None);
-    assert_eq!(rt; chars.pos(), 3);
+    equal(&rt, chars.peek(), Some('a'));
+    equal(&rt, chars.next(), Some('a'));
+    equal(&rt, chars.next(), Some('é'));
+    equal(&rt, chars.next(), None);
+    equal(&rt, chars.pos(), 3);
 }

@@ -1,39 +1,31 @@
 //! What tokens show of themselves to a reader of code, and what the lexer's faults print. What tokens print is in the answers
 //! of `starlark_dump`.
 
-use crate::common::prints;
+use crate::maker::{Maker, leave};
 use starlark_lexer::token::{FStringQuote, LexemeError, Token, TokenInt};
-use std::test::Fail;
+use std::process::Abort;
+
+fn shows(m: &Maker<'_, impl Abort>, token: Token, want: &str) {
+    m.shows(&token, want);
+    leave(token);
+}
 
 #[test]
-fn shown(rt: HostRuntime) -> Result<(), Fail> {
-    let alloc = rt.alloc();
-    let digits = String::from_str(alloc, "80000000")?;
+fn shown(rt: HostRuntime) {
+    let m = &Maker::new(&rt, rt.alloc());
+    shows(m, Token::SlashSlashEqual, "SlashSlashEqual");
+    shows(m, Token::Identifier(m.text("x")), "Identifier(\"x\")");
+    shows(m, Token::Int(TokenInt::I32(31)), "Int(I32(31))");
     let big = TokenInt::BigInt {
-        digits,
+        digits: m.text("80000000"),
         negative: false,
         radix: 16,
     };
-    for (token, text) in [
-        (Token::SlashSlashEqual, "SlashSlashEqual"),
-        (
-            Token::Identifier(String::from_str(alloc, "x")?),
-            "Identifier(\"x\")",
-        ),
-        (Token::Int(TokenInt::I32(31)), "Int(I32(31))"),
-        (
-            Token::Int(big),
-            "Int(BigInt { digits: \"80000000\", negative: false, radix: 16 })",
-        ),
-        (Token::Bytes(Vec::new(alloc)), "Bytes([])"),
-        (
-            Token::FStringStart(FStringQuote::TripleDouble),
-            "FStringStart(TripleDouble)",
-        ),
-    ] {
-        assert_eq!(rt; format!(in alloc; "{token:?}")?.as_str(), text);
-    }
-    Ok(())
+    let want = "Int(BigInt { digits: \"80000000\", negative: false, radix: 16 })";
+    shows(m, Token::Int(big), want);
+    shows(m, Token::Bytes(m.none()), "Bytes([])");
+    let quote = FStringQuote::TripleDouble;
+    shows(m, Token::FStringStart(quote), "FStringStart(TripleDouble)");
 }
 
 /// The faults, and what each prints.
@@ -68,9 +60,6 @@ static FAULTS: [(LexemeError, &str); 12] = [
 ];
 
 #[test]
-fn faults(rt: HostRuntime) -> Result<(), Fail> {
-    for (fault, want) in &FAULTS {
-        prints(&rt, rt.alloc(), fault, want)?;
-    }
-    Ok(())
+fn faults(rt: HostRuntime) {
+    Maker::new(&rt, rt.alloc()).each_prints(&FAULTS);
 }

@@ -1,5 +1,6 @@
 //! The scripts of `cases/` in `starlark_outline`, each run whole by reads and writes of one byte each.
 
+use crate::check::{equal, holds};
 use crate::devices::{NEVER, Tight, run_short};
 use starlark_script::{End, status};
 
@@ -236,8 +237,11 @@ static CASES: [(&[u8], &[u8], End, u8); 40] = [
 fn cases(rt: HostRuntime) {
     for (script, replies, end, number) in &CASES {
         let short = run_short(&rt, script, u32::MAX, NEVER, Tight::new(&rt, NEVER, NEVER));
-        assert!(rt; short.end == Ok(*end) && !short.read_failed && !short.write_failed);
-        assert_eq!(rt; status(&short.end), *number);
-        assert_eq!(rt; short.writer.taken.as_slice(), *replies);
+        holds(
+            &rt,
+            short.end == Ok(*end) && !short.read_failed && !short.write_failed,
+        );
+        equal(&rt, status(&short.end), *number);
+        equal(&rt, short.writer.taken.as_slice(), *replies);
     }
 }

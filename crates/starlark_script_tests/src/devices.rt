@@ -3,6 +3,7 @@
 ghost use Rattle.std.specs.Prelude.{◌≡◌, [], Some, IfOk, IfErr, OnErr};
 ghost use Rattle.starlark_script.specs.Engine.{IsAnswered, IsAnsweredInPart, IsAnsweredSoFar};
 
+use crate::check::{count, equal, holds};
 use starlark_lexer::dialect::Dialect;
 use starlark_script::{End, RunFault, Sink, Source, Watched, run, run_with};
 use std::io;
@@ -171,7 +172,10 @@ fn each_read_fails(rt: HostRuntime) {
     for at in 0..26 {
         let writer = Tight::new(&rt, NEVER, NEVER);
         let short = run_short(&rt, SCRIPT, 100, at, writer);
-        assert!(rt; short.end == Err(RunFault::Read) && short.read_failed && !short.write_failed);
+        holds(
+            &rt,
+            short.end == Err(RunFault::Read) && short.read_failed && !short.write_failed,
+        );
         let answered = if at < 17 {
             0
         } else if at < 25 {
@@ -179,8 +183,8 @@ fn each_read_fails(rt: HostRuntime) {
         } else {
             27
         };
-        assert_eq!(rt; short.writer.taken.as_slice(), &REPLIES[..answered]);
-        assert_eq!(rt; short.reader.calls, at + 1);
+        equal(&rt, short.writer.taken.as_slice(), &REPLIES[..answered]);
+        equal(&rt, short.reader.calls, at + 1);
     }
 }
 
@@ -191,12 +195,12 @@ fn each_write_fails(rt: HostRuntime) {
         let reads = if at < 3 { 17 } else { 25 };
         let failing = run_short(&rt, SCRIPT, 100, NEVER, Tight::new(&rt, at, NEVER));
         let stalling = run_short(&rt, SCRIPT, 100, NEVER, Tight::new(&rt, NEVER, at));
-        assert!(rt; failing.write_failed && !stalling.write_failed);
+        holds(&rt, failing.write_failed && !stalling.write_failed);
         for short in [failing, stalling] {
-            assert!(rt; short.end == Err(RunFault::Write) && !short.read_failed);
-            assert_eq!(rt; short.writer.taken.as_slice(), &REPLIES[..at]);
-            assert_eq!(rt; short.writer.calls, at + 1);
-            assert_eq!(rt; short.reader.calls, reads);
+            holds(&rt, short.end == Err(RunFault::Write) && !short.read_failed);
+            equal(&rt, short.writer.taken.as_slice(), &REPLIES[..at]);
+            equal(&rt, short.writer.calls, at + 1);
+            equal(&rt, short.reader.calls, reads);
         }
     }
 }
@@ -213,13 +217,13 @@ fn no_read_too_many(rt: HostRuntime) {
     ];
     for (script, reads, end) in scripts {
         let short = run_short(&rt, script, 100, NEVER, Tight::new(&rt, NEVER, NEVER));
-        assert!(rt; short.end == Ok(end));
-        assert_eq!(rt; short.reader.calls, reads);
+        holds(&rt, short.end == Ok(end));
+        equal(&rt, short.reader.calls, reads);
     }
     let long = [b'o'; 80];
     let short = run_short(&rt, &long, 100, NEVER, Tight::new(&rt, NEVER, NEVER));
-    assert!(rt; short.end == Ok(End::Bad));
-    assert_eq!(rt; short.reader.calls, 65);
+    holds(&rt, short.end == Ok(End::Bad));
+    equal(&rt, short.reader.calls, 65);
 }
 
 /// A read of no byte is the end, whatever the reader would give behind it.
@@ -229,9 +233,9 @@ fn nothing_behind_the_end(rt: HostRuntime) {
     let mut writer = Watched::new(Tight::new(&rt, NEVER, NEVER));
     let end = run(rt.alloc(), &mut reader, &mut writer, &Dialect::Standard);
     let replies: &[u8] = b"statements 0\n";
-    assert!(rt; end == Ok(End::Whole));
-    assert_eq!(rt; writer.into_inner().taken.as_slice(), replies);
-    assert_eq!(rt; reader.into_inner().calls, 2);
+    holds(&rt, end == Ok(End::Whole));
+    equal(&rt, writer.into_inner().taken.as_slice(), replies);
+    equal(&rt, reader.into_inner().calls, 2);
 }
 
 /// Each read is passed on once, also behind one that failed and behind the end, and answers what it answers.
@@ -244,42 +248,66 @@ fn watched_reader(rt: HostRuntime) {
         fails_at: 3,
         calls: 0,
     });
-    assert!(rt; matches!(reader.read(&mut buffer), Ok(1)) && buffer[0] == b'a');
-    assert!(rt; matches!(reader.pull(&mut buffer), Ok(1)) && buffer[0] == b'b');
-    assert!(rt; matches!(reader.read(&mut buffer), Ok(0)) && !Source::failed(&reader));
-    assert!(rt; reader.pull(&mut buffer).is_err() && Source::failed(&reader));
-    assert!(rt; matches!(reader.pull(&mut buffer), Ok(0)) && Source::failed(&reader));
-    assert_eq!(rt; reader.into_inner().calls, 5);
+    holds(
+        &rt,
+        matches!(reader.read(&mut buffer), Ok(1)) && buffer[0] == b'a',
+    );
+    holds(
+        &rt,
+        matches!(reader.pull(&mut buffer), Ok(1)) && buffer[0] == b'b',
+    );
+    holds(
+        &rt,
+        matches!(reader.read(&mut buffer), Ok(0)) && !Source::failed(&reader),
+    );
+    holds(
+        &rt,
+        reader.pull(&mut buffer).is_err() && Source::failed(&reader),
+    );
+    holds(
+        &rt,
+        matches!(reader.pull(&mut buffer), Ok(0)) && Source::failed(&reader),
+    );
+    equal(&rt, reader.into_inner().calls, 5);
 }
 
 /// Each write is passed on once, also behind one that failed and one that took none, and answers what it answers.
 #[test]
 fn watched_writer(rt: HostRuntime) {
     let mut writer = Watched::new(Tight::new(&rt, 3, 1));
-    assert!(rt; matches!(writer.write(b"ab"), Ok(1)));
-    assert!(rt; matches!(writer.put(b"b"), Ok(0)) && writer.flush().is_ok());
-    assert!(rt; !Sink::failed(&writer) && writer.put(b"b").is_err() && Sink::failed(&writer));
-    assert!(rt; matches!(writer.put(b"bc"), Ok(1)) && Sink::failed(&writer));
+    holds(&rt, matches!(writer.write(b"ab"), Ok(1)));
+    holds(
+        &rt,
+        matches!(writer.put(b"b"), Ok(0)) && writer.flush().is_ok(),
+    );
+    holds(
+        &rt,
+        !Sink::failed(&writer) && writer.put(b"b").is_err() && Sink::failed(&writer),
+    );
+    holds(
+        &rt,
+        matches!(writer.put(b"bc"), Ok(1)) && Sink::failed(&writer),
+    );
     let inner = writer.into_inner();
     let taken: &[u8] = b"ab";
-    assert_eq!(rt; inner.taken.as_slice(), taken);
-    assert_eq!(rt; inner.calls, 5);
+    equal(&rt, inner.taken.as_slice(), taken);
+    equal(&rt, inner.calls, 5);
 }
 
 /// A flush that fails is kept in mind too.
 #[test]
 fn watched_flush(rt: HostRuntime) {
     let mut writer = Watched::new(Tight::new(&rt, 0, NEVER));
-    assert!(rt; writer.flush().is_err() && Sink::failed(&writer));
-    assert_eq!(rt; writer.into_inner().calls, 1);
+    holds(&rt, writer.flush().is_err() && Sink::failed(&writer));
+    equal(&rt, writer.into_inner().calls, 1);
 }
 
 /// All the room and all the bytes are passed on.
 #[test]
 fn watched_whole(rt: HostRuntime) {
     let mut reader = Watched::new(Pausing { calls: 0 });
-    assert!(rt; matches!(reader.pull(&mut [0u8; 16]), Ok(8)));
+    holds(&rt, matches!(reader.pull(&mut [0u8; 16]), Ok(8)));
     let mut writer = Watched::new(Vec::new(rt.alloc()));
-    assert!(rt; matches!(writer.put(b"ab"), Ok(2)));
-    assert_eq!(rt; writer.into_inner().len(), 2);
+    holds(&rt, matches!(writer.put(b"ab"), Ok(2)));
+    count(&rt, writer.into_inner().len(), 2);
 }

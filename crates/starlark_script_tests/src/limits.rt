@@ -1,6 +1,7 @@
 //! Limits, scripts that end as bad at once, and what faults print. Other scripts stand in `cases/` and in `stdin` of
 //! `starlark_outline`.
 
+use crate::check::{equal, holds};
 use crate::devices::{NEVER, Tight, run_short};
 use starlark_script::{End, RunFault};
 use std::test::Fail;
@@ -30,8 +31,11 @@ static LIMITED: [(&[u8], u32, &[u8]); 4] = [
 fn limits(rt: HostRuntime) -> Result<(), Fail> {
     for (script, limit, replies) in &LIMITED {
         let short = run_short(&rt, script, *limit, NEVER, Tight::new(&rt, NEVER, NEVER));
-        assert!(rt; short.end == Ok(End::Whole) && !short.read_failed && !short.write_failed);
-        assert_eq!(rt; short.writer.taken.as_slice(), *replies);
+        holds(
+            &rt,
+            short.end == Ok(End::Whole) && !short.read_failed && !short.write_failed,
+        );
+        equal(&rt, short.writer.taken.as_slice(), *replies);
     }
     Ok(())
 }
@@ -48,8 +52,11 @@ fn bad(rt: HostRuntime) -> Result<(), Fail> {
     let reply: &[u8] = b"bad\n";
     for script in &BAD {
         let short = run_short(&rt, script, 100, NEVER, Tight::new(&rt, NEVER, NEVER));
-        assert!(rt; short.end == Ok(End::Bad) && !short.read_failed && !short.write_failed);
-        assert_eq!(rt; short.writer.taken.as_slice(), reply);
+        holds(
+            &rt,
+            short.end == Ok(End::Bad) && !short.read_failed && !short.write_failed,
+        );
+        equal(&rt, short.writer.taken.as_slice(), reply);
     }
     Ok(())
 }
@@ -62,7 +69,7 @@ fn messages(rt: HostRuntime) -> Result<(), Fail> {
         (RunFault::Write, "a write failed"),
         (RunFault::Memory, "out of memory"),
     ] {
-        assert_eq!(rt; format!(in rt.alloc(); "{fault}")?.as_str(), text);
+        equal(&rt, format!(in rt.alloc(); "{fault}")?.as_str(), text);
     }
     Ok(())
 }

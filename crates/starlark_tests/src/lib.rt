@@ -1,16 +1,18 @@
-//! Tests of the public calls on modules, of what no stream of texts can tell: faults, comments, costs, clones, suppressions,
-//! operators made calls. It has no code of its own, so the crates below are proved once.
+//! Tests of the public calls from trees up to the parser, of what no stream of texts can tell. It has no code of its own, so that
+//! the crates below are proved once.
 #![tactic(auto)]
 
 #[cfg(test)]
-mod clones;
+mod check;
 #[cfg(test)]
 mod common;
 #[cfg(test)]
+mod lent;
+#[cfg(test)]
 mod maker;
 #[cfg(test)]
-mod parsing;
+mod modules;
 #[cfg(test)]
-mod replacing;
+mod parsed;
 #[cfg(test)]
-mod suppressions;
+mod trees;

@@ -1,6 +1,7 @@
 //! Parts: each public call, the refusals in their order, and what a reading takes. A list is let go by `release`, so that
 //! the drops of trees are not proved once more.
 
+use crate::check::{count, equal, holds};
 use starlark_lexer::dialect::Dialect;
 use starlark_parts::fault::PartFault;
 use starlark_parts::parts::Parts;
@@ -19,31 +20,31 @@ fn shown(item: &OutlineItem) -> Shown {
 /// The outline, the same from scratch, its items and the statements are these.
 fn is_outline(rt: &impl Abort, parts: &Parts, wanted: &[Shown]) -> Result<(), AllocError> {
     let outline = parts.outline()?;
-    assert_eq!(rt; outline.len(), wanted.len());
-    assert!(rt; parts.items().len() == wanted.len() as u128);
+    count(rt, outline.len(), wanted.len());
+    holds(rt, parts.items().len() == wanted.len() as u128);
     let again = parts.from_scratch()?;
-    assert_eq!(rt; again.len(), wanted.len());
+    count(rt, again.len(), wanted.len());
     for (item, same) in outline.iter().zip(&again) {
-        assert!(rt; *item == *same);
+        holds(rt, *item == *same);
     }
     let mut items = parts.items();
     let mut statements = parts.statements();
     for (item, want) in outline.iter().zip(wanted) {
-        assert_eq!(rt; shown(item), *want);
-        assert!(rt; items.next() == Some(*item));
+        equal(rt, shown(item), *want);
+        holds(rt, items.next() == Some(*item));
         let Some((statement, begin)) = statements.next() else {
             panic!(rt; "a statement is missing")
         };
-        assert!(rt; Word::of(statement) == Some(item.word));
-        assert_eq!(rt; begin, item.begin);
+        holds(rt, Word::of(statement) == Some(item.word));
+        equal(rt, begin, item.begin);
     }
-    assert!(rt; items.next().is_none());
-    assert!(rt; statements.next().is_none());
+    holds(rt, items.next().is_none());
+    holds(rt, statements.next().is_none());
     Ok(())
 }
 
 fn edited(rt: &impl Abort, parts: &mut Parts) -> Result<(), Fail> {
-    assert_eq!(rt; (parts.len(), parts.last_cost().asks), (0, 0));
+    equal(rt, (parts.len(), parts.last_cost().asks), (0, 0));
     parts.insert(0, b"def f():\n  pass\n")?;
     parts.insert(1, b"f(1)\n")?;
     parts.insert(0, b"a = 2\n")?;
@@ -57,9 +58,10 @@ fn edited(rt: &impl Abort, parts: &mut Parts) -> Result<(), Fail> {
         ],
     )?;
     parts.replace(0, b"a = 2\n\n# c\n")?;
-    assert_eq!(rt;
+    equal(
+        rt,
         parts.text()?.as_str(),
-        "a = 2\n\n# c\ndef f():\n  pass\nf(1)\n"
+        "a = 2\n\n# c\ndef f():\n  pass\nf(1)\n",
     );
     parts.move_part(0, 2)?;
     is_outline(
@@ -71,9 +73,9 @@ fn edited(rt: &impl Abort, parts: &mut Parts) -> Result<(), Fail> {
             (Word::Assign, 3, 0),
         ],
     )?;
-    assert_eq!(rt; parts.part(1), Some("f(1)\n"));
+    equal(rt, parts.part(1), Some("f(1)\n"));
     parts.remove(1)?;
-    assert_eq!(rt; (parts.len(), parts.part(2)), (2, None));
+    equal(rt, (parts.len(), parts.part(2)), (2, None));
     Ok(())
 }
 
@@ -100,17 +102,24 @@ fn refused(rt: &impl Abort, alloc: Global, parts: &mut Parts) -> Result<(), Fail
         let Err(fault) = parts.insert(*index, bytes) else {
             return Err(Fail::from("it is taken"));
         };
-        assert_eq!(rt; fault.to_string(alloc)?.as_str(), *wanted);
-        assert_eq!(rt; parts.text()?.as_str(), "x = 1\n");
+        equal(rt, fault.to_string(alloc)?.as_str(), *wanted);
+        equal(rt, parts.text()?.as_str(), "x = 1\n");
     }
-    assert_eq!(rt;
+    equal(
+        rt,
         PartFault::Memory.to_string(alloc)?.as_str(),
-        "out of memory"
+        "out of memory",
     );
-    assert!(rt; matches!(parts.replace(1, b"y\n"), Err(PartFault::Index)));
-    assert!(rt; matches!(parts.replace(0, b"y = [1, 2]\n"), Err(PartFault::Long)));
-    assert!(rt; matches!(parts.remove(1), Err(PartFault::Index)));
-    assert!(rt; matches!(parts.move_part(0, 1), Err(PartFault::Index)));
+    holds(
+        rt,
+        matches!(parts.replace(1, b"y\n"), Err(PartFault::Index)),
+    );
+    holds(
+        rt,
+        matches!(parts.replace(0, b"y = [1, 2]\n"), Err(PartFault::Long)),
+    );
+    holds(rt, matches!(parts.remove(1), Err(PartFault::Index)));
+    holds(rt, matches!(parts.move_part(0, 1), Err(PartFault::Index)));
     Ok(())
 }
 
@@ -125,15 +134,15 @@ fn refusals(rt: HostRuntime) -> Result<(), Fail> {
 /// Nothing was read.
 fn costs_nothing(rt: &impl Abort, parts: &Parts) {
     let cost = parts.last_cost();
-    assert_eq!(rt; (cost.reads, cost.asks), (0, 0));
+    equal(rt, (cost.reads, cost.asks), (0, 0));
 }
 
 /// A text of so many bytes was read to its end, with so many asks.
 fn costs(rt: &impl Abort, parts: &Parts, bytes: u32, asks: u64) {
     let cost = parts.last_cost();
-    assert_eq!(rt; cost.asks, asks);
-    assert!(rt; bytes as u64 <= cost.reads);
-    assert!(rt; cost.reads <= 16 * (bytes as u64 + 1));
+    equal(rt, cost.asks, asks);
+    holds(rt, bytes as u64 <= cost.reads);
+    holds(rt, cost.reads <= 16 * (bytes as u64 + 1));
 }
 
 fn counted(rt: &impl Abort, parts: &mut Parts) -> Result<(), Fail> {
@@ -142,16 +151,28 @@ fn counted(rt: &impl Abort, parts: &mut Parts) -> Result<(), Fail> {
     costs(rt, parts, 5, 7);
     parts.insert(1, b"x = 1\n")?;
     costs(rt, parts, 6, 6);
-    assert!(rt; matches!(parts.replace(0, b"x = 1"), Err(PartFault::Open)));
+    holds(
+        rt,
+        matches!(parts.replace(0, b"x = 1"), Err(PartFault::Open)),
+    );
     costs(rt, parts, 5, 5);
-    assert!(rt; matches!(parts.replace(2, b"x = 1\n"), Err(PartFault::Index)));
+    holds(
+        rt,
+        matches!(parts.replace(2, b"x = 1\n"), Err(PartFault::Index)),
+    );
     costs_nothing(rt, parts);
     parts.replace(0, b"f(1)\n")?;
-    assert!(rt; matches!(parts.replace(0, b"\xff"), Err(PartFault::Utf8)));
+    holds(
+        rt,
+        matches!(parts.replace(0, b"\xff"), Err(PartFault::Utf8)),
+    );
     costs_nothing(rt, parts);
-    assert!(rt; matches!(parts.replace(0, b"1=\n"), Err(PartFault::Parse(_, _))));
-    assert!(rt; parts.last_cost().asks > 0);
-    assert!(rt; parts.last_cost().asks <= 5);
+    holds(
+        rt,
+        matches!(parts.replace(0, b"1=\n"), Err(PartFault::Parse(_, _))),
+    );
+    holds(rt, parts.last_cost().asks > 0);
+    holds(rt, parts.last_cost().asks <= 5);
     parts.move_part(0, 1)?;
     costs_nothing(rt, parts);
     parts.insert(0, b"# c\n")?;

@@ -1,5 +1,6 @@
 //! What leaves of trees print, and clones of literals, names and loads.
 
+use crate::check::equal;
 use crate::common::span;
 use crate::maker::Maker;
 use starlark_ast::ast::{
@@ -62,8 +63,8 @@ fn loads(rt: HostRuntime) {
         their: m.text("y").ast(14, 17),
         comma: Some(Comma.ast(17, 18)),
     };
-    assert_eq!(rt; arg.span(), span(12, 17));
-    assert_eq!(rt; arg.span_with_trailing_comma(), span(12, 18));
+    equal(&rt, arg.span(), span(12, 17));
+    equal(&rt, arg.span_with_trailing_comma(), span(12, 18));
     let load = Load {
         module: m.text("m").ast(5, 8),
         args: m.one(arg),

@@ -1,49 +1,50 @@
 //! Clones show the same as what they are of, places and texts among it. They are left: how trees are let go is proved anew in each
 //! crate that does so.
 
-use crate::common::{parsed, span};
+use crate::check::equal;
+use crate::common::span;
 use crate::maker::Maker;
 use starlark_ast::ast::{AstStmt, ExprP, StmtP};
 use starlark_clone::clone_tree::CloneTree;
-use std::alloc::AllocError;
-use std::test::Fail;
+
+/// Expressions of each form.
+static EXPRESSIONS: [&str; 11] = [
+    "[(), (1, 2), [3, 0x80000000], {4: 5.5, \"a\": \"b\"}]",
+    "a.b[c](d, e = f, *g, **h)[i, j][k:l:m][:]",
+    "not a and -b + +c * ~d or (... if e else f)",
+    "[a for (b, c[0]), d.e in f if g for h in i]",
+    "{a: b for c in d}",
+    "f\"x{a}y{b}\"",
+    "lambda a, b = 1, *args, c, **kwargs: lambda *, d: a",
+    "a()",
+    "[]",
+    "{}",
+    "lambda: a",
+];
 
 #[test]
-fn clones_of_expressions(rt: HostRuntime) -> Result<(), Fail> {
+fn clones_of_expressions(rt: HostRuntime) {
     let alloc = rt.alloc();
     let m = Maker::new(&rt, alloc);
-    for text in [
-        "[(), (1, 2), [3, 0x80000000], {4: 5.5, \"a\": \"b\"}]",
-        "a.b[c](d, e = f, *g, **h)[i, j][k:l:m][:]",
-        "not a and -b + +c * ~d or (... if e else f)",
-        "[a for (b, c[0]), d.e in f if g for h in i]",
-        "{a: b for c in d}",
-        "f\"x{a}y{b}\"",
-        "lambda a, b = 1, *args, c, **kwargs: lambda *, d: a",
-        "a()",
-        "[]",
-        "{}",
-        "lambda: a",
-    ] {
-        let module = parsed(alloc, text)?;
+    for text in &EXPRESSIONS {
+        let module = m.parsed(text);
         let StmtP::Expression(x) = &module.statement().node else {
-            return Err(Fail::from(AllocError));
+            panic!(rt; "it has another form")
         };
         m.copied(x.node.clone(alloc), &x.node);
     }
-    Ok(())
 }
 
 #[test]
-fn clones_of_parts(rt: HostRuntime) -> Result<(), Fail> {
+fn clones_of_parts(rt: HostRuntime) {
     let alloc = rt.alloc();
     let m = Maker::new(&rt, alloc);
-    let module = parsed(alloc, "f(lambda a, b = 1: a, x = [a for b in c if d])")?;
+    let module = m.parsed("f(lambda a, b = 1: a, x = [a for b in c if d])");
     let StmtP::Expression(x) = &module.statement().node else {
-        return Err(Fail::from(AllocError));
+        panic!(rt; "it has another form")
     };
     let ExprP::Call(_, args) = &x.node else {
-        return Err(Fail::from(AllocError));
+        panic!(rt; "it has another form")
     };
     m.copied(args.clone(alloc), args);
     for arg in &args.args {
@@ -63,25 +64,27 @@ fn clones_of_parts(rt: HostRuntime) -> Result<(), Fail> {
                     m.copied(clause.clone(alloc), clause);
                 }
             }
-            _ => return Err(Fail::from(AllocError)),
+            _ => panic!(rt; "it has another form"),
         }
     }
-    Ok(())
 }
 
+/// Statements of each form.
+static STATEMENTS: [&str; 6] = [
+    "load(\"m\", \"a\", b = \"c\",)\nx = 1; y: list[int] = 2\nz.w += 3\nv[0], [u, (t)] = s\n",
+    "def f(a, /, b: int = 1, *c, d: str, **e) -> None:\n  if a:\n    return\n  elif b:\n    pass\n  return c\n",
+    "for i, j[0] in k:\n  if i:\n    break\n  else:\n    continue\n",
+    "f\"x{a}y{b}\"\n",
+    "def a(): pass",
+    "",
+];
+
 #[test]
-fn clones_of_statements(rt: HostRuntime) -> Result<(), Fail> {
+fn clones_of_statements(rt: HostRuntime) {
     let alloc = rt.alloc();
     let m = Maker::new(&rt, alloc);
-    for text in [
-        "load(\"m\", \"a\", b = \"c\",)\nx = 1; y: list[int] = 2\nz.w += 3\nv[0], [u, (t)] = s\n",
-        "def f(a, /, b: int = 1, *c, d: str, **e) -> None:\n  if a:\n    return\n  elif b:\n    pass\n  return c\n",
-        "for i, j[0] in k:\n  if i:\n    break\n  else:\n    continue\n",
-        "f\"x{a}y{b}\"\n",
-        "def a(): pass",
-        "",
-    ] {
-        let module = parsed(alloc, text)?;
+    for text in &STATEMENTS {
+        let module = m.parsed(text);
         let tree = &module.statement().node;
         m.copied(tree.clone(alloc), tree);
         match tree {
@@ -89,67 +92,63 @@ fn clones_of_statements(rt: HostRuntime) -> Result<(), Fail> {
             StmtP::For(x) => m.copied(x.clone(alloc), x),
             StmtP::Expression(x) => {
                 let ExprP::FString(x) = &x.node else {
-                    return Err(Fail::from(AllocError));
+                    panic!(rt; "it has another form")
                 };
                 m.copied(x.node.clone(alloc), &x.node);
             }
             _ => {}
         }
     }
-    let module = parsed(alloc, "x: int = 1")?;
+    let module = m.parsed("x: int = 1");
     let StmtP::Assign(x) = &module.statement().node else {
-        return Err(Fail::from(AllocError));
+        panic!(rt; "it has another form")
     };
     m.copied(x.clone(alloc), x);
     let Some(ty) = &x.ty else {
-        return Err(Fail::from(AllocError));
+        panic!(rt; "it has another form")
     };
     m.copied(ty.node.clone(alloc), &ty.node);
-    Ok(())
 }
 
 #[test]
-fn clones_at_places(rt: HostRuntime) -> Result<(), Fail> {
+fn clones_at_places(rt: HostRuntime) {
     let alloc = rt.alloc();
     let m = Maker::new(&rt, alloc);
-    let module = parsed(alloc, "a\nb")?;
+    let module = m.parsed("a\nb");
     let tree = module.statement();
     let again: AstStmt = m.made(tree.clone(alloc));
-    assert_eq!(rt; again.span, span(0, 3));
+    equal(&rt, again.span, span(0, 3));
     m.same(&again, tree);
     m.printed(again.node, "a\nb\n");
-    Ok(())
 }
 
 #[test]
-fn clones_of_names_at_places(rt: HostRuntime) -> Result<(), Fail> {
+fn clones_of_names_at_places(rt: HostRuntime) {
     let alloc = rt.alloc();
     let m = Maker::new(&rt, alloc);
-    let module = parsed(alloc, "def f(): return a.b")?;
+    let module = m.parsed("def f(): return a.b");
     let StmtP::Def(def) = &module.statement().node else {
-        return Err(Fail::from(AllocError));
+        panic!(rt; "it has another form")
     };
     m.copied(def.name.clone(alloc), &def.name);
     let StmtP::Return(Some(x)) = &def.body.node else {
-        return Err(Fail::from(AllocError));
+        panic!(rt; "it has another form")
     };
     m.copied(x.clone(alloc), x);
     let ExprP::Dot(object, name) = &x.node else {
-        return Err(Fail::from(AllocError));
+        panic!(rt; "it has another form")
     };
     m.copied(name.clone(alloc), name);
     let ExprP::Identifier(read) = &object.node else {
-        return Err(Fail::from(AllocError));
+        panic!(rt; "it has another form")
     };
     m.copied(read.clone(alloc), read);
-    Ok(())
 }
 
 #[test]
-fn clones_of_modules(rt: HostRuntime) -> Result<(), Fail> {
+fn clones_of_modules(rt: HostRuntime) {
     let alloc = rt.alloc();
     let m = Maker::new(&rt, alloc);
-    let module = parsed(alloc, "# a\n# b\nx = [1] # c\n")?;
+    let module = m.parsed("# a\n# b\nx = [1] # c\n");
     m.copied(module.clone(alloc), &module);
-    Ok(())
 }

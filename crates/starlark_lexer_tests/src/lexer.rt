@@ -1,29 +1,25 @@
 //! Calls of the lexer that its items do not tell, and dialects.
 
+use crate::check::{equal, holds};
+use crate::maker::{Maker, leave};
 use starlark_lexer::dialect::{Dialect, DialectTypes};
 use starlark_lexer::lexer::Lexer;
-use starlark_lexer::place::codemap::{CodeMap, CodeMapId};
-use std::alloc::AllocError;
-use std::test::Fail;
 
 #[test]
-fn counts_reads_and_goes_through(rt: HostRuntime) -> Result<(), Fail> {
+fn counts_reads_and_goes_through(rt: HostRuntime) {
     let alloc = rt.alloc();
-    let name = String::from_str(alloc, "t")?;
-    let source = String::from_str(alloc, "f(x)\n")?;
-    let Ok(codemap) = CodeMap::new(alloc, CodeMapId(1), name, source) else {
-        return Err(AllocError.into());
-    };
+    let codemap = Maker::new(&rt, alloc).map_of(1, "t", "f(x)\n");
     let mut lexer = Lexer::new(alloc, "f(x)\n", &Dialect::default(), codemap);
-    assert_eq!(rt; lexer.reads(), 0);
+    equal(&rt, lexer.reads(), 0);
     for item in &mut lexer {
-        if item.is_err() {
-            return Err(AllocError.into());
-        }
+        holds(&rt, item.is_ok());
+        leave(item);
     }
-    assert!(rt; lexer.reads() >= 5);
-    assert!(rt; lexer.next().is_none());
-    Ok(())
+    holds(&rt, lexer.reads() >= 5);
+    let end = lexer.next();
+    holds(&rt, end.is_none());
+    leave(end);
+    leave(lexer);
 }
 
 #[test]
@@ -36,19 +32,21 @@ fn dialects(rt: HostRuntime) {
         enable_types: DialectTypes::Enable,
         ..standard
     };
-    assert!(rt; Dialect::default() == standard);
-    assert!(rt; Dialect::Extended == extended);
-    assert!(rt;
+    holds(&rt, Dialect::default() == standard);
+    holds(&rt, Dialect::Extended == extended);
+    holds(
+        &rt,
         Dialect::AllOptionsInternal
             == Dialect {
                 enable_f_strings: true,
                 ..extended
-            }
+            },
     );
-    assert!(rt;
+    holds(
+        &rt,
         standard.enable_def
             && standard.enable_lambda
             && standard.enable_load
-            && standard.enable_load_reexport
+            && standard.enable_load_reexport,
     );
 }

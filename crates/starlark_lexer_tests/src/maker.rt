@@ -1,13 +1,16 @@
 //! Values that tests want, made where memory is at hand.
 
+ghost use Rattle.std.specs.Prelude.{◌≡◌, Ok, string_bytes};
+
+use crate::check::equal;
 use starlark_place::codemap::{CodeMap, CodeMapId};
 use std::alloc::Global;
 use std::fmt::{Debug, Display};
 use std::mem::ManuallyDrop;
 use std::process::Abort;
 
-/// Makes what tests want, and sees what it prints. A test ends where memory runs out, and no tree is let go: how trees are let
-/// go is proved anew in each crate that does so.
+/// Makes what tests want, and sees what it prints. A test ends where memory runs out, and no token or lexer is let go: how they are
+/// let go is proved anew in each crate that does so.
 #[derive(Drop)]
 pub(crate) struct Maker<'a, A> {
     rt: &'a A,
@@ -21,15 +24,19 @@ impl<'a, A: Abort> Maker<'a, A> {
     }
 
     /// What a call made.
-    pub(crate) fn made<T, E>(&self, made: Result<T, E>) -> T {
+    pub(crate) fn made<T, E>(&self, made: Result<T, E>) -> T
+        ensures { made ≡ Ok result }
+    {
         match made {
             Ok(x) => x,
-            Err(_) => panic!(self.rt; "memory ran out"),
+            Err(_) => panic!(self.rt; "it is refused, or memory ran out"),
         }
     }
 
     /// The map of a text.
-    pub(crate) fn map_of(&self, id: u64, name: &str, source: &str) -> CodeMap {
+    pub(crate) fn map_of(&self, id: u64, name: &str, source: &str) -> CodeMap
+        ensures { result.source ≡ source.now }
+    {
         let map = CodeMap::new(
             self.alloc,
             CodeMapId(id),
@@ -40,7 +47,9 @@ impl<'a, A: Abort> Maker<'a, A> {
     }
 
     /// A text as a string.
-    pub(crate) fn text(&self, text: &str) -> String {
+    pub(crate) fn text(&self, text: &str) -> String
+        ensures { string_bytes result ≡ text.now }
+    {
         self.made(String::from_str(self.alloc, text))
     }
 
@@ -56,22 +65,10 @@ impl<'a, A: Abort> Maker<'a, A> {
         xs
     }
 
-    /// A list of two.
-    pub(crate) fn both<T>(&self, x: T, y: T) -> Vec<T> {
-        let mut xs = self.one(x);
-        self.made(xs.push(y));
-        xs
-    }
-
-    /// A value in a box.
-    pub(crate) fn boxed<T>(&self, x: T) -> Box<T> {
-        self.made(Box::new(self.alloc, x))
-    }
-
     /// What stands there prints that.
     pub(crate) fn prints(&self, x: &impl Display, want: &str) {
         let text = self.made(x.to_string(self.alloc));
-        assert_eq!(self.rt; text.as_str(), want);
+        equal(self.rt, text.as_str(), want);
     }
 
     /// Each of a table prints what stands beside it.
@@ -81,17 +78,16 @@ impl<'a, A: Abort> Maker<'a, A> {
         }
     }
 
-    /// Both show the same, places and texts among it.
-    pub(crate) fn same(&self, x: &impl Debug, y: &impl Debug) {
-        let shown = self.made(format!(in self.alloc; "{x:?}"));
-        let wanted = self.made(format!(in self.alloc; "{y:?}"));
-        assert_eq!(self.rt; shown, wanted);
+    /// It shows that to a reader of code.
+    pub(crate) fn shows(&self, x: &impl Debug, want: &str) {
+        let text = self.made(format!(in self.alloc; "{x:?}"));
+        equal(self.rt, text.as_str(), want);
     }
 
-    /// A tree prints that. It is left.
-    pub(crate) fn printed<T: Display>(&self, tree: T, want: &str) {
-        self.prints(&tree, want);
-        leave(tree);
+    /// A value prints that. It is left.
+    pub(crate) fn printed<T: Display>(&self, x: T, want: &str) {
+        self.prints(&x, want);
+        leave(x);
     }
 }
 

@@ -1,0 +1,6 @@
+//! Modules: texts with their trees.
+
+mod clones;
+mod parsing;
+mod replacing;
+mod suppressions;

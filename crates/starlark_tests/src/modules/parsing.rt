@@ -1,0 +1,97 @@
+//! A text with its tree, and what a refusal prints.
+
+use crate::check::{count, equal, holds};
+use crate::common::span;
+use crate::maker::Maker;
+use starlark_ast::ast::StmtP;
+use starlark_lexer::dialect::Dialect;
+use starlark_parser::fault::{EvalException, ParserErrorKind};
+use starlark_parser::fields::AstModuleFields;
+use starlark_parser::module::AstModule;
+use starlark_place::codemap::CodeMapId;
+use std::alloc::Global;
+use std::process::Abort;
+
+fn parse(m: &Maker<'_, impl Abort>, alloc: Global, text: &str) -> Result<AstModule, EvalException> {
+    let dialect = &Dialect::Standard;
+    AstModule::parse(alloc, CodeMapId(1), "t", m.text(text), dialect)
+}
+
+#[test]
+fn modules(rt: HostRuntime) {
+    let m = &Maker::new(&rt, rt.alloc());
+    let module = m.made(parse(m, rt.alloc(), "foo\ndef x():\n   pass"));
+    equal(&rt, module.statement().span, span(0, 20));
+    holds(&rt, matches!(module.statement().node, StmtP::Statements(_)));
+}
+
+/// Texts that are refused, what the refusal prints, and its kind.
+static REFUSED: [(&str, &str, ParserErrorKind); 4] = [
+    (
+        "1 + 2 )",
+        "unexpected token: t:1:7-8",
+        ParserErrorKind::Syntax,
+    ),
+    (
+        "if x:\n",
+        "unexpected end of the text: t:2:1",
+        ParserErrorKind::Syntax,
+    ),
+    ("x = $", "invalid input: t:1:5-6", ParserErrorKind::Lexer),
+    (
+        "1 = 2 )",
+        "this may not be assigned to: t:1:1-2",
+        ParserErrorKind::Rule,
+    ),
+];
+
+#[test]
+fn refusals(rt: HostRuntime) {
+    let m = &Maker::new(&rt, rt.alloc());
+    for (text, shown, kind) in &REFUSED {
+        let Err(EvalException::Fault(fault)) = parse(m, rt.alloc(), text) else {
+            panic!(rt; "it is taken, or memory ran out")
+        };
+        m.prints(&fault, shown);
+        equal(&rt, fault.inner().kind(), *kind);
+    }
+}
+
+#[test]
+fn costs(rt: HostRuntime) {
+    let content = Maker::new(&rt, rt.alloc()).text("foo\ndef x():\n   pass");
+    let (module, cost) = AstModule::parse_counted(
+        rt.alloc(),
+        CodeMapId(1),
+        "t",
+        content,
+        &Dialect::Standard,
+    );
+    holds(&rt, module.is_ok());
+    equal(&rt, cost.asks, 13);
+    holds(&rt, cost.reads >= 20);
+    holds(&rt, cost.reads <= 336);
+}
+
+#[test]
+fn comments(rt: HostRuntime) {
+    let module = Maker::new(&rt, rt.alloc()).parsed("# a\n# b\nx = 1\n# c");
+    let comments = module.comments();
+    count(&rt, comments.len(), 3);
+    equal(&rt, comments[0], span(0, 3));
+    equal(&rt, comments[1], span(4, 7));
+    equal(&rt, comments[2], span(14, 17));
+}
+
+/// A stretch in one line, and one over two.
+#[test]
+fn file_spans(rt: HostRuntime) {
+    let m = Maker::new(&rt, rt.alloc());
+    let module = m.parsed("x = 1\nf(x)\n");
+    let within = span(6, 10);
+    holds(&rt, module.codemap().holds(within));
+    m.prints(&m.made(module.file_span(within)), "t:2:1-5");
+    let over = span(4, 7);
+    holds(&rt, module.codemap().holds(over));
+    m.prints(&m.made(module.file_span(over)), "t:1:5-2:2");
+}

@@ -1,0 +1,6 @@
+//! What parts of trees print by themselves, clones of leaves, and rules on trees.
+
+mod leaves;
+mod parts;
+mod rule_texts;
+mod rules;
