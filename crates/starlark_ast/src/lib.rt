@@ -3,6 +3,7 @@
 
 mod access;
 pub mod ast;
+pub mod laws;
 mod leaf;
 mod leaves;
 mod lines;

@@ -1,7 +1,7 @@
 //! Laws of the grammar, of the machine that reads it, and of refusals. Tokens are those without
 //! comments.
 
-ghost use Rattle.std.specs.Prelude.{[], ◌++◌, ◌<◌, ◌≡◌, ◌∷◌, List, None, length};
+ghost use Rattle.std.specs.Prelude.{[], ◌++◌, ◌<◌, ◌≡◌, ◌↔◌, ◌∷◌, List, None, length, true};
 ghost use Rattle.starlark_grammar.specs.Spans.{stretch};
 ghost use Rattle.starlark_lexer.specs.Items.{Item, Lexed};
 ghost use Rattle.starlark_lexer.specs.declared.dialect.Dialect.{Dialect};
@@ -15,6 +15,8 @@ ghost use Rattle.starlark_grammar.specs.Runs.{Accepts, Stuck, bottom, initial, m
 ghost use Rattle.starlark_grammar.specs.Completion.{completion};
 ghost use Rattle.starlark_grammar.specs.Language.{Decision, EndsAt, Fault, HasEnded, IsProgram, IsRefusal, IsViable, last_end};
 ghost use Rattle.starlark_grammar.specs.Longer.{AreFirm, GoesLonger, InOrder, IsConstruct, begin_of};
+
+use crate::make::Sign;
 
 /// What the machine accepts is of Module, with that tree.
 pub fn sound()
@@ -64,4 +66,10 @@ pub fn ended_or_longer()
 /// the end of the last token.
 pub fn nested_places()
     ensures { (u : List Item) (raw : Statement) → InOrder 0 u → Derives u raw → StatementIn (stretch 0 (last_end 0 u)) raw }
+{}
+
+/// Signs are equal where they are one, and a clone is the sign itself.
+pub fn signs_compare()
+    ensures equal { (x y : Sign) → (⟦<Sign as PartialEq>⟧.eq x y ≡ true) ↔ (x ≡ y) }
+    ensures cloned { (x y : Sign) → ⟦<Sign as Clone>⟧.is_clone x y → y ≡ x }
 {}

@@ -1,16 +1,21 @@
 //! Laws of the definitions.
 
-ghost use Rattle.std.specs.Prelude.{◌*◌, ◌+◌, ◌≡◌, ◌≤◌, List, None, count_by, length, map, true, ℕ};
+ghost use Rattle.std.specs.Prelude.{◌*◌, ◌+◌, ◌≡◌, ◌≤◌, ◌↔◌, List, None, count_by, length, map, true, ℕ};
 ghost use Rattle.std.specs.Str.{IsUtf8};
 ghost use Rattle.starlark_lexer.specs.declared.dialect.TheConstants.Dialect.{AllOptionsInternal, Extended, Standard};
 ghost use Rattle.starlark_lexer.specs.declared.words.TheConstants.{KEYWORDS, OPERATORS, RESERVED};
 ghost use Rattle.starlark_lexer.specs.Dialects.{all_options, extended, standard};
-ghost use Rattle.starlark_lexer.specs.Format.{Parsed, Pieces};
-ghost use Rattle.starlark_lexer.specs.Items.{Lexed, keyword_lexeme, operator_lexeme};
+ghost use Rattle.starlark_lexer.specs.Format.{Parsed, Pieces, part_of};
+ghost use Rattle.starlark_lexer.specs.Items.{Lexed, keyword_lexeme, number_of, operator_lexeme};
 ghost use Rattle.starlark_lexer.specs.Joining.{IsClosed, IsEven, IsJoined, IsLaid, IsLevel, dedent_item, opens_level};
 ghost use Rattle.starlark_lexer.specs.Lex.{Lex, start};
 ghost use Rattle.starlark_lexer.specs.Order.{AreFirm, Covers, HoldsEach, InOrder};
 ghost use Rattle.starlark_lexer.specs.Words.{keywords, operators, reserved};
+
+use crate::dialect::{Dialect, DialectTypes};
+use crate::format::{EscapeCurlyBrace, FormatConv, FormatError, FormatErrorKind, FormatToken};
+use crate::number::TokenIntError;
+use crate::token::{FStringConv, FStringQuote, LexemeError, TokenInt};
 
 /// A text has at most one reading.
 pub fn one_reading()
@@ -72,4 +77,39 @@ pub fn dialects()
     ensures standard { Standard ≡ standard }
     ensures extended { Extended ≡ extended }
     ensures all { AllOptionsInternal ≡ all_options }
+{}
+
+/// Dialects are equal where all their switches are, and so are kinds, quotes, conversions and faults.
+pub fn choices_compare()
+    ensures types { (x y : DialectTypes) → (⟦<DialectTypes as PartialEq>⟧.eq x y ≡ true) ↔ (x ≡ y) }
+    ensures dialects { (x y : Dialect) → (⟦<Dialect as PartialEq>⟧.eq x y ≡ true) ↔ (x ≡ y) }
+    ensures quotes { (x y : FStringQuote) → (⟦<FStringQuote as PartialEq>⟧.eq x y ≡ true) ↔ (x ≡ y) }
+    ensures conversions { (x y : FStringConv) → (⟦<FStringConv as PartialEq>⟧.eq x y ≡ true) ↔ (x ≡ y) }
+    ensures captures { (x y : FormatConv) → (⟦<FormatConv as PartialEq>⟧.eq x y ≡ true) ↔ (x ≡ y) }
+    ensures braces { (x y : EscapeCurlyBrace) → (⟦<EscapeCurlyBrace as PartialEq>⟧.eq x y ≡ true) ↔ (x ≡ y) }
+    ensures kinds { (x y : FormatErrorKind) → (⟦<FormatErrorKind as PartialEq>⟧.eq x y ≡ true) ↔ (x ≡ y) }
+    ensures numbers { (x y : TokenIntError) → (⟦<TokenIntError as PartialEq>⟧.eq x y ≡ true) ↔ (x ≡ y) }
+    ensures faults { (x y : LexemeError) → (⟦<LexemeError as PartialEq>⟧.eq x y ≡ true) ↔ (x ≡ y) }
+{}
+
+/// Integers are equal where all that they say of their literal is.
+pub fn integers_compare()
+    ensures { (x y : TokenInt) → (⟦<TokenInt as PartialEq>⟧.eq x y ≡ true) ↔ (number_of x ≡ number_of y) }
+{}
+
+/// Tokens and errors of format strings are equal where they say the same of the same text.
+pub fn formats_compare<'a>()
+    ensures tokens { (x y : FormatToken) → (⟦<FormatToken<'a> as PartialEq>⟧.eq x y ≡ true) ↔ (part_of x ≡ part_of y) }
+    ensures errors { (x y : FormatError) → (⟦<FormatError<'a> as PartialEq>⟧.eq x y ≡ true) ↔ ((x.kind ≡ y.kind) × (x.text.now ≡ y.text.now)) }
+{}
+
+/// The clone of what is copied is itself.
+pub fn clones_are_copies()
+    ensures types { (x y : DialectTypes) → ⟦<DialectTypes as Clone>⟧.is_clone x y → y ≡ x }
+    ensures dialects { (x y : Dialect) → ⟦<Dialect as Clone>⟧.is_clone x y → y ≡ x }
+    ensures quotes { (x y : FStringQuote) → ⟦<FStringQuote as Clone>⟧.is_clone x y → y ≡ x }
+    ensures conversions { (x y : FStringConv) → ⟦<FStringConv as Clone>⟧.is_clone x y → y ≡ x }
+    ensures captures { (x y : FormatConv) → ⟦<FormatConv as Clone>⟧.is_clone x y → y ≡ x }
+    ensures braces { (x y : EscapeCurlyBrace) → ⟦<EscapeCurlyBrace as Clone>⟧.is_clone x y → y ≡ x }
+    ensures faults { (x y : LexemeError) → ⟦<LexemeError as Clone>⟧.is_clone x y → y ≡ x }
 {}

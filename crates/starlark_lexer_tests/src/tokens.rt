@@ -1,7 +1,10 @@
-//! What tokens show of themselves to a reader of code, and what the lexer's faults print. What tokens print is in the answers
-//! of `starlark_dump`.
+//! What tokens show of themselves to a reader of code, which of them are equal, and what the lexer's faults print. What tokens
+//! print is in the answers of `starlark_dump`.
 
+use crate::check::equal;
 use crate::maker::{Maker, leave};
+use starlark_lexer::dialect::Dialect;
+use starlark_lexer::lexer::Lexer;
 use starlark_lexer::token::{FStringQuote, LexemeError, Token, TokenInt};
 use std::process::Abort;
 
@@ -26,6 +29,34 @@ fn shown(rt: HostRuntime) {
     shows(m, Token::Bytes(m.none()), "Bytes([])");
     let quote = FStringQuote::TripleDouble;
     shows(m, Token::FStringStart(quote), "FStringStart(TripleDouble)");
+}
+
+/// Each kind of token, and those that hold something with two values of it.
+static ALL: &str = "and break continue def elif else for if in lambda load not or pass return
+, ; : = += -= *= /= //= %= &= |= ^= <<= >>= == != < > <= >= + - * ** / // % & | ^ << >> ~ . ... -> ( ) [ ] { }
+a b 1 2 0x80000000 0x80000001 0b10000000000000000000000000000000 1.0 2.0 \"a\" \"b\" b\"a\" b\"b\"
+f\"a{x!r}b\" f'c' f'''d''' f\"\"\"e\"\"\" # c
+  x # d
+";
+
+/// Two tokens are equal exactly where they show the same to a reader of code.
+#[test]
+fn equal_tokens(rt: HostRuntime) {
+    let m = &Maker::new(&rt, rt.alloc());
+    let mut lexer = Lexer::new(rt.alloc(), ALL, &Dialect::default(), m.map_of(1, "t", ALL));
+    let mut all = m.none();
+    for item in &mut lexer {
+        let (_, token, _) = m.made(item);
+        let shown = m.made(format!(in rt.alloc(); "{token:?}"));
+        m.made(all.push((shown, token)));
+    }
+    for (shown, token) in &all {
+        for (other, another) in &all {
+            equal(&rt, token == another, shown == other);
+        }
+    }
+    leave(all);
+    leave(lexer);
 }
 
 /// The faults, and what each prints.

@@ -5,6 +5,7 @@ mod copy;
 pub mod element;
 pub mod fault;
 pub mod fields;
+pub mod laws;
 pub mod loads;
 pub mod locations;
 pub mod module;

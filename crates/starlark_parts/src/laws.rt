@@ -1,6 +1,6 @@
 //! Laws of the trees and the outlines of texts.
 
-ghost use Rattle.std.specs.Prelude.{List, ℕ, ◌∷◌, ◌++◌, ◌+◌, ◌≡◌};
+ghost use Rattle.std.specs.Prelude.{List, ℕ, ◌∷◌, ◌++◌, ◌+◌, ◌≡◌, ◌↔◌, true};
 ghost use Rattle.std.specs.List.{All};
 ghost use Rattle.starlark_place.specs.Place.{line_feeds};
 ghost use Rattle.starlark_lexer.specs.Joining.{IsClosed};
@@ -10,8 +10,8 @@ ghost use Rattle.starlark_grammar.specs.Language.{Language};
 ghost use Rattle.starlark_parts.specs.Flat.{AreWorded, IsFlat};
 ghost use Rattle.starlark_parts.specs.Kept.{joined};
 ghost use Rattle.starlark_parts.specs.Outlines.{AreAllStatements, AreOutlines, AreTops, IsOutline, Placed, items_down};
-ghost use Rattle.starlark_parts.specs.declared.word.OutlineItem.{OutlineItem};
 
+use crate::word::{OutlineItem, Word};
 use starlark_grammar::text_laws::{nested_places, one_tree};
 use starlark_joining::laws::joined_trees;
 
@@ -60,3 +60,11 @@ pub fn same_lines()
 {
     joined_outline();
 }
+
+/// Words and items of outlines are equal where they say the same, and a clone is the same.
+pub fn items_compare()
+    ensures words_equal { (x y : Word) → (⟦<Word as PartialEq>⟧.eq x y ≡ true) ↔ (x ≡ y) }
+    ensures words_cloned { (x y : Word) → ⟦<Word as Clone>⟧.is_clone x y → y ≡ x }
+    ensures items_equal { (x y : OutlineItem) → (⟦<OutlineItem as PartialEq>⟧.eq x y ≡ true) ↔ (x ≡ y) }
+    ensures items_cloned { (x y : OutlineItem) → ⟦<OutlineItem as Clone>⟧.is_clone x y → y ≡ x }
+{}

@@ -16,6 +16,7 @@ mod f_string;
 mod feed;
 mod for_loop;
 mod kind;
+pub mod laws;
 mod level;
 mod listed;
 mod load;

@@ -10,6 +10,7 @@ mod finding;
 pub mod kept;
 mod kept_expressions;
 mod late;
+pub mod laws;
 pub mod parameters;
 mod statements;
 pub mod tree;

@@ -1,6 +1,6 @@
 //! Laws of edits and of outlines.
 
-ghost use Rattle.std.specs.Prelude.{◌≡◌, ◌≤◌, ◌⊎◌, ℕ, List, length};
+ghost use Rattle.std.specs.Prelude.{◌≡◌, ◌≤◌, ◌⊎◌, ◌↔◌, ℕ, List, length, true};
 ghost use Rattle.starlark_lexer.specs.declared.dialect.Dialect.{Dialect};
 ghost use Rattle.starlark_parts.specs.Edits.{Refuses, Takes};
 ghost use Rattle.starlark_parts.specs.Kept.{Edit, edited, inserts, removes};
@@ -9,6 +9,7 @@ ghost use Rattle.starlark_parts.specs.declared.fault.PartFault.{PartFault};
 ghost use Rattle.starlark_parts.specs.declared.word.OutlineItem.{OutlineItem};
 ghost use Rattle.starlark_script.specs.Laws.{SayTheSame};
 
+use crate::fault::{End, RunFault};
 use starlark_grammar::text_laws::one_refusal;
 use starlark_parts::laws;
 
@@ -31,4 +32,12 @@ pub fn taken_or_refused()
 /// A part that is put in at an index and left out there again leaves the parts from before.
 pub fn inserted_then_removed()
     ensures { (texts : List (List ℕ)) (k : ℕ) (text : List ℕ) → k ≤ length texts → edited (edited texts (inserts k text)) (removes k) ≡ texts }
+{}
+
+/// Ends and faults of runs are equal where they are one, and a clone is the same.
+pub fn ends_compare()
+    ensures ends_equal { (x y : End) → (⟦<End as PartialEq>⟧.eq x y ≡ true) ↔ (x ≡ y) }
+    ensures ends_cloned { (x y : End) → ⟦<End as Clone>⟧.is_clone x y → y ≡ x }
+    ensures faults_equal { (x y : RunFault) → (⟦<RunFault as PartialEq>⟧.eq x y ≡ true) ↔ (x ≡ y) }
+    ensures faults_cloned { (x y : RunFault) → ⟦<RunFault as Clone>⟧.is_clone x y → y ≡ x }
 {}
