@@ -22,10 +22,19 @@ pub type EvalException = Refusal<LexemeError>;
 
 /// Cuts a text into lexemes. A clause sees the items and the fault that are left, the length of the
 /// text, how much of it is cut, the count of looks so far and the source.
-#[derive(Drop)]
 pub struct Lexer<'a> {
     parts: Parts<'a>,
     codemap: CodeMap,
+}
+
+// Written out, so that a crate that lets a lexer go need not prove how its parts are let go.
+impl<'a> Drop for Lexer<'a> {
+    fn drop(self) {
+        let Lexer {
+            parts: _parts,
+            codemap: _codemap,
+        } = self;
+    }
 }
 
 impl<'a> Model for Lexer<'a> {

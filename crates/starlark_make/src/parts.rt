@@ -42,7 +42,7 @@ pub(crate) fn signed(sign: Sign, operand: Box<AstExpr>, span: Span) -> AstExpr
 }
 
 /// The expression as a type, at the same place. An Err is want of memory; the expression is let go then.
-pub fn annotated(alloc: Global, x: AstExpr) -> Result<Box<AstTypeExpr>, AllocError>
+pub(crate) fn annotated(alloc: Global, x: AstExpr) -> Result<Box<AstTypeExpr>, AllocError>
     ensures { IfOk result (λ t. boxed_type_at t ≡ tree.typed (expr_at x) (tree.place (expr_at x))) }
 {
     let span = x.span;
