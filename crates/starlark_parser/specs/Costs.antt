@@ -25,9 +25,14 @@ pub record IsPartly (text : List ℕ) (c : Cost) : Type 0 where
   pub few : c.asks ≤ 2 * length text + 2
   pub bounded : c.reads ≤ 16 * length text + 16
 
+-- Memory ran out: what was spent until then is no more than such a text takes.
+pub record IsBounded (text : List ℕ) (c : Cost) : Type 0 where
+  pub few : c.asks ≤ 2 * length text + 2
+  pub bounded : c.reads ≤ 16 * length text + 16
+
 -- the cost of a reading with that answer
 abbrev pub Costs : List ℕ → Result AstModule EvalException → Cost → Type 0
 Costs text (Ok m) c = IsWhole text c
 Costs text (Err (exception.Fault w)) c = IsPartly text c
 Costs text (Err exception.TooLong) c = c ≡ record { reads = 0; asks = 0 }
-Costs text (Err exception.Memory) c = Unit {0}
+Costs text (Err exception.Memory) c = IsBounded text c

@@ -74,7 +74,7 @@ impl AstModule {
     }
 
     /// The same as `parse`, and what the reading took. Nothing is asked for behind the first fault of the lexer. Where
-    /// memory runs out the cost is what was spent until then.
+    /// memory runs out the cost is what was spent until then, which is no more than a text of that length takes.
     pub fn parse_counted(
         alloc: Global,
         id: CodeMapId,

@@ -39,7 +39,8 @@ pub(crate) fn module_of(
     ensures fault { IfErr result (λ e. IsFault dialect.now (record { id = id.0; name = filename.now; source = string_bytes content }) e) }
     ensures cost { Costs (string_bytes content) result cost.new }
 {
-    if content.len() > u32::MAX as usize {
+    let bytes = content.len();
+    if bytes > u32::MAX as usize {
         return Err(EvalException::TooLong);
     }
     let filename = String::from_str(alloc, filename)?;
@@ -50,7 +51,7 @@ pub(crate) fn module_of(
     in_order();
     let mut told = Told::nothing(alloc);
     let answer = read::<Trees>(alloc, lexer, dialect, &mut told);
-    *cost = told.cost;
+    *cost = told.cost.at_most(bytes as u32);
     held_places();
     refused_goes_on();
     match answer {

@@ -181,14 +181,15 @@ fn closed(alloc: Global, read: AstModule) -> Result<Part, PartFault>
     }
 }
 
-// reads a text alone
+// reads a text alone, and says what that took, where nothing was said yet
 fn read_text(
     alloc: Global,
     dialect: &Dialect,
     text: &str,
     cost: &mut Cost,
 ) -> Result<Part, PartFault>
-    requires { length text.now ≤ 4294967295 }
+    requires short { length text.now ≤ 4294967295 }
+    requires cost { cost.old ≡ nothing_read }
     ensures text { IfOk result (λ p. text_of p ≡ text.now) }
     ensures ok { IfOk result (λ p. IsPart dialect.now p) }
     ensures err { IfErr result (λ f. RefusesText dialect.now text.now f) }

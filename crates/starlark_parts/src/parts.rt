@@ -165,7 +165,7 @@ impl Parts {
     }
 
     /// What the reading of the last edit took: nothing in a new list, behind `remove` and `move_part`, and behind an edit
-    /// that was refused as `Index`, `Utf8` or `Long`. Where memory ran out no clause tells it.
+    /// that was refused as `Index`, `Utf8` or `Long`. Where memory ran out it is no more than such a text takes.
     pub fn last_cost(&self) -> Cost
         ensures { result ≡ self.now.cost }
     {

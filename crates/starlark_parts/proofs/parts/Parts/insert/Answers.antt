@@ -2,6 +2,7 @@ use Rattle.std.proofs.Common.{◌∙◌, ap, arith, refl}
 use Rattle.std.proofs.lemmas.Result.{err_from_is_err_and}
 use Rattle.starlark_parts.specs.Held.{texts_of}
 use Rattle.starlark_parts.proofs.Keeping.{held_insert, insert_lacks, insert_refused, insert_taken, insert_texts, no_insert, texts_are}
+use Rattle.starlark_parts.proofs.Spending.{whole_bounded}
 use Rattle.starlark_parts.proofs.parts.Parts.insert.Goals as goal
 
 pub returns-then-index-len-clause-edit : goal.returns-then-index-len-clause-edit
@@ -37,4 +38,4 @@ returns-in_err-part-clause-cost c =
 pub returns-in_err-put-clause-cost : goal.returns-in_err-put-clause-cost
 returns-in_err-put-clause-cost c =
     let p = err_from_is_err_and c.from_residual-in_err-put.result c.from_residual-in_err-put.ensures.1 in
-    rw (p.1, p.2) tt
+    rw (p.1, p.2) (whole_bounded c.in_ok-part.ensures.cost)
