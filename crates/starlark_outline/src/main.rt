@@ -6,15 +6,13 @@
 #![tactic(auto)]
 
 use starlark_lexer::dialect::Dialect;
-use starlark_script::{Watched, exit_code, fault_line, run};
+use starlark_script::{Watched, exit_code, run, tell};
 use std::process::ExitCode;
 
 fn main(rt: HostRuntime) -> ExitCode {
     let mut reader = Watched::new(rt.stdin());
     let mut writer = Watched::new(rt.stdout());
     let end = run(rt.alloc(), &mut reader, &mut writer, &Dialect::Standard);
-    if let Err(fault) = &end {
-        let _ = eprintln!(rt; "{}", fault_line(fault));
-    }
+    let _ = tell(&mut rt.stderr(), &end);
     exit_code(&end)
 }

@@ -89,3 +89,8 @@ abbrev pub fault_text : RunFault → List ℕ
 fault_text faults.Read = codes "fault: read"
 fault_text faults.Write = codes "fault: write"
 fault_text faults.Memory = codes "fault: memory"
+
+-- What the program says of the end of a run: the line of a fault, and nothing where there was none.
+abbrev pub told : Result End RunFault → List ℕ
+told (Ok end) = []
+told (Err fault) = fault_text fault ++ 10 ∷ []

@@ -1,10 +1,12 @@
 //! How the program tells the way a run ended.
 
-ghost use Rattle.std.specs.Prelude.{◌≡◌};
+ghost use Rattle.std.specs.Prelude.{◌≡◌, OnOk};
+ghost use Rattle.std.specs.Io.KnownBytes.{Appends};
 ghost use Rattle.std.specs.Process.{exit_status};
-ghost use Rattle.starlark_script.specs.Engine.{status_of, fault_text};
+ghost use Rattle.starlark_script.specs.Engine.{fault_text, status_of, told};
 
 use crate::fault::{End, RunFault};
+use std::io::{self, Write};
 use std::process::ExitCode;
 
 /// The status that the program ends with: 0 after a whole script, 2 after one with a bad line or a cut text, 1 after a
@@ -34,5 +36,19 @@ pub fn fault_line(fault: &RunFault) -> &'static str
         RunFault::Read => "fault: read",
         RunFault::Write => "fault: write",
         RunFault::Memory => "fault: memory",
+    }
+}
+
+/// Writes the line of a fault, and nothing where there was none. Where it answers an `Err` some of it may have been
+/// written.
+pub fn tell<W: Write>(writer: &mut W, end: &Result<End, RunFault>) -> io::Result<()>
+    ensures { OnOk result (Appends (W.contents writer.old) (W.contents writer.new) (told end.now)) }
+{
+    match end {
+        Ok(_) => Ok(()),
+        Err(fault) => {
+            writer.write_all(fault_line(fault).as_bytes())?;
+            writer.write_all(b"\n")
+        }
     }
 }

@@ -16,5 +16,5 @@ mod write;
 
 pub use device::{Sink, Source, Watched};
 pub use engine::{run, run_with};
-pub use exit::{exit_code, fault_line, status};
+pub use exit::{exit_code, fault_line, status, tell};
 pub use fault::{End, RunFault};

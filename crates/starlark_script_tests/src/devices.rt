@@ -5,7 +5,7 @@ ghost use Rattle.starlark_script.specs.Engine.{IsAnswered, IsAnsweredInPart, IsA
 
 use crate::check::{count, equal, holds};
 use starlark_lexer::dialect::Dialect;
-use starlark_script::{End, RunFault, Sink, Source, Watched, run, run_with};
+use starlark_script::{End, RunFault, Sink, Source, Watched, run, run_with, tell};
 use std::io;
 use std::io::{Read, Write};
 
@@ -224,6 +224,16 @@ fn no_read_too_many(rt: HostRuntime) {
     let short = run_short(&rt, &long, 100, NEVER, Tight::new(&rt, NEVER, NEVER));
     holds(&rt, short.end == Ok(End::Bad));
     equal(&rt, short.reader.calls, 65);
+}
+
+/// A fault is told by its line, and the end of a script by nothing.
+#[test]
+fn faults_are_told(rt: HostRuntime) {
+    let mut writer = Tight::new(&rt, NEVER, NEVER);
+    holds(&rt, tell(&mut writer, &Ok(End::Bad)).is_ok());
+    holds(&rt, tell(&mut writer, &Err(RunFault::Read)).is_ok());
+    let line: &[u8] = b"fault: read\n";
+    equal(&rt, writer.taken.as_slice(), line);
 }
 
 /// A read of no byte is the end, whatever the reader would give behind it.
