@@ -1,5 +1,6 @@
 //! Values that tests want, made where memory is at hand.
 
+use crate::check::equal;
 use std::alloc::Global;
 use std::fmt::Display;
 use std::mem::ManuallyDrop;
@@ -54,7 +55,7 @@ impl<'a, A: Abort> Maker<'a, A> {
     /// What stands there prints that.
     pub(crate) fn prints(&self, x: &impl Display, want: &str) {
         let text = self.made(x.to_string(self.alloc));
-        assert_eq!(self.rt; text.as_str(), want);
+        equal(self.rt, text.as_str(), want);
     }
 
     /// A tree prints that. It is left.

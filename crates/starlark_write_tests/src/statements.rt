@@ -1,6 +1,7 @@
 //! What stands in a statement once a closure has written to it, over trees that are parsed. A tree is left in the end, and so is
 //! what a closure puts something else in the place of: how trees are let go is proved anew in each crate that does so.
 
+use crate::check::equal;
 use crate::maker::{Maker, leave};
 use starlark_lexer::dialect::Dialect;
 use starlark_parser::ast::ast::{AstExpr, AstStmt, AstTypeExpr, ExprP, StmtP};
@@ -113,8 +114,8 @@ fn stops_below(rt: HostRuntime) -> Result<(), Fail> {
             Ok(())
         },
     );
-    assert_eq!(rt; answer, Err(2));
-    assert_eq!(rt; calls, 2);
+    equal(&rt, answer, Err(2));
+    equal(&rt, calls, 2);
     m.printed(tree.node, "pass\nb\nc\n");
     Ok(())
 }
@@ -142,8 +143,8 @@ fn types(rt: HostRuntime) -> Result<(), Fail> {
             seen = noted(seen, x.span.begin().get());
             Ok(())
         });
-    assert_eq!(rt; answer, Ok(()));
-    assert_eq!(rt; seen, 9_15);
+    equal(&rt, answer, Ok(()));
+    equal(&rt, seen, 9_15);
     m.printed(tree.node, "def f(a: t) -> r:\n  pass\n");
     Ok(())
 }
@@ -155,8 +156,8 @@ fn nodes_below(rt: HostRuntime) -> Result<(), Fail> {
     let mut tree = tree(alloc, "for x[0] in y: z")?;
     let mut empties = Empties { alloc, calls: 3 };
     let answer = tree.node.lend_children_mut(&mut empties);
-    assert_eq!(rt; answer, Ok(()));
-    assert_eq!(rt; empties.calls, 7);
+    equal(&rt, answer, Ok(()));
+    equal(&rt, empties.calls, 7);
     m.printed(tree.node, "for ()[()] in ():\n  pass\n");
     Ok(())
 }
@@ -168,7 +169,7 @@ fn stops_at_a_node(rt: HostRuntime) -> Result<(), Fail> {
     let mut tree = tree(alloc, "if a:\n  b\nelse:\n  c\n")?;
     let mut empties = Empties { alloc, calls: 0 };
     let answer = tree.node.lend_children_mut(&mut empties);
-    assert_eq!(rt; answer, Err(3));
+    equal(&rt, answer, Err(3));
     m.printed(tree.node, "if ():\n  pass\nelse:\n  c\n");
     Ok(())
 }

@@ -1,6 +1,7 @@
 //! What a closure leaves at the places that it is lent, and where it stops. What it puts something else in the place of is left:
 //! how trees are let go is proved anew in each crate that does so.
 
+use crate::check::equal;
 use crate::maker::{Maker, leave};
 use starlark_ast::ast::{
     AssignIdent, AssignTarget, AssignTargetP, AstAssignIdent, AstExpr, AstLiteral, BinOp, Expr,
@@ -64,7 +65,7 @@ fn operands(rt: HostRuntime) {
             dots(x);
         }
     });
-    assert_eq!(rt; calls, 2);
+    equal(&rt, calls, 2);
     m.printed(sum, "(a + ...)");
 }
 
@@ -78,8 +79,8 @@ fn stops(rt: HostRuntime) {
         dots(x);
         if calls == 2 { Err(calls) } else { Ok(()) }
     });
-    assert_eq!(rt; answer, Err(2));
-    assert_eq!(rt; calls, 2);
+    equal(&rt, answer, Err(2));
+    equal(&rt, calls, 2);
     m.printed(triple, "(..., ..., c)");
 }
 
@@ -91,7 +92,7 @@ fn keeps_room(rt: HostRuntime) {
     triple.visit_expr_mut(&mut |x: &mut AstExpr| {
         dots(x);
     });
-    assert_eq!(rt; room(&triple), before);
+    equal(&rt, room(&triple), before);
     m.printed(triple, "(..., ..., ...)");
 }
 
@@ -104,13 +105,13 @@ fn targets(rt: HostRuntime) {
         calls = calls.wrapping_add(1);
         dots(x);
     });
-    assert_eq!(rt; calls, 2);
+    equal(&rt, calls, 2);
     m.prints(&target, "(a, ...[...])");
     let mut names = 0u64;
     target.visit_lvalue_mut(&mut |x: &mut AstAssignIdent| {
         names = names.wrapping_add(1);
         x.node.ident.clear();
     });
-    assert_eq!(rt; names, 1);
+    equal(&rt, names, 1);
     m.printed(target, "(, ...[...])");
 }

@@ -7,7 +7,7 @@ use starlark_parser::ast::ast::{ExprP, StmtP};
 use starlark_parser::fields::AstModuleFields;
 use starlark_parser::rules::arguments::CallArgsUnpack;
 use starlark_parser::rules::call::call_fault;
-use starlark_parser::rules::def::{DefParamKind, DefParams, DefRegularParamMode};
+use starlark_parser::rules::def::{DefParamIndices, DefParamKind, DefParams, DefRegularParamMode};
 use starlark_parser::rules::parameters::parameter_fault;
 use starlark_parser::rules::type_expr::{TypeExprUnpackP, type_str_literal_is_wildcard};
 use starlark_parser::rules::types::type_fault;
@@ -18,7 +18,7 @@ use std::process::Abort;
 #[test]
 fn arguments(rt: HostRuntime) {
     let m = Maker::new(&rt, rt.alloc());
-    let module = m.parsed("f(1, 2, k = 3, *s, **t)");
+    let module = m.parsed("f(1, a=2, *b, **c)");
     let StmtP::Expression(call) = &module.statement().node else {
         panic!(rt; "it has another form")
     };
@@ -29,14 +29,14 @@ fn arguments(rt: HostRuntime) {
         panic!(rt; "they break a rule")
     }
     let found = m.made(CallArgsUnpack::unpack(rt.alloc(), args, module.codemap()));
-    count(&rt, found.pos.len(), 2);
+    count(&rt, found.pos.len(), 1);
     equal(&rt, found.pos[0].span, span(2, 3));
     count(&rt, found.named.len(), 1);
-    equal(&rt, found.named[0].span, span(8, 13));
-    holds(&rt, matches!(found.star, Some(x) if x.span == span(15, 17)));
+    equal(&rt, found.named[0].span, span(5, 8));
+    holds(&rt, matches!(found.star, Some(x) if x.span == span(10, 12)));
     holds(
         &rt,
-        matches!(found.star_star, Some(x) if x.span == span(19, 22)),
+        matches!(found.star_star, Some(x) if x.span == span(14, 17)),
     );
 }
 
@@ -83,6 +83,52 @@ fn parameters(rt: HostRuntime) {
     equal(&rt, indices.pos_only(), 0..1);
     equal(&rt, indices.pos_or_named(), 1..2);
     equal(&rt, indices.named_only(params.len()), 3..4);
+}
+
+/// Without `*args` what stands behind a lone `*` follows at once.
+#[test]
+fn stretches(rt: HostRuntime) {
+    let m = Maker::new(&rt, rt.alloc());
+    let module = m.parsed("def f(a, /, b, *, c=1, **d): pass");
+    let StmtP::Def(def) = &module.statement().node else {
+        panic!(rt; "it has another form")
+    };
+    if parameter_fault(&def.params).is_some() {
+        panic!(rt; "they break a rule")
+    }
+    let found = m.made(DefParams::unpack(rt.alloc(), &def.params, module.codemap()));
+    let indices = DefParamIndices {
+        num_positional: 2,
+        num_positional_only: 1,
+        args: None,
+        kwargs: Some(3),
+    };
+    equal(&rt, found.indices, indices);
+    equal(&rt, found.indices.pos_only(), 0..1);
+    equal(&rt, found.indices.pos_or_named(), 1..2);
+    equal(&rt, found.indices.named_only(found.params.len()), 2..3);
+}
+
+/// The type `list[str]`.
+#[test]
+fn type_of_one(rt: HostRuntime) {
+    let m = Maker::new(&rt, rt.alloc());
+    let module = m.parsed("list[str]");
+    let StmtP::Expression(ty) = &module.statement().node else {
+        panic!(rt; "it has another form")
+    };
+    if m.made(type_fault(rt.alloc(), ty)).is_some() {
+        panic!(rt; "it breaks a rule")
+    }
+    let found = m.made(TypeExprUnpackP::unpack(rt.alloc(), ty, module.codemap()));
+    let TypeExprUnpackP::Index(list, of) = &found.node else {
+        panic!(rt; "it has another form")
+    };
+    equal(&rt, list.node.ident.as_str(), "list");
+    let TypeExprUnpackP::Path(path) = &of.node else {
+        panic!(rt; "it has another form")
+    };
+    equal(&rt, path.first.node.ident.as_str(), "str");
 }
 
 /// The type `dict[str, list[int] | None]`.
@@ -136,7 +182,8 @@ fn refused_type(rt: &impl Abort, alloc: Global, text: &str, want: &str) {
 }
 
 /// Expressions that are no types, and what their refusals print.
-static NO_TYPES: [(&str, &str); 4] = [
+static NO_TYPES: [(&str, &str); 5] = [
+    ("\"a\"", "a type may not be this: string literal: t:1:1-4"),
     ("[]", "a type may not be an empty list: t:1:1-3"),
     ("a | []", "a type may not be an empty list: t:1:5-7"),
     (

@@ -2,7 +2,7 @@
 
 use crate::check::{count, equal, holds};
 use crate::common::span;
-use crate::maker::Maker;
+use crate::maker::{Maker, leave};
 use starlark_ast::ast::StmtP;
 use starlark_lexer::dialect::Dialect;
 use starlark_parser::fault::{EvalException, ParserErrorKind};
@@ -71,6 +71,18 @@ fn costs(rt: HostRuntime) {
     equal(&rt, cost.asks, 13);
     holds(&rt, cost.reads >= 20);
     holds(&rt, cost.reads <= 336);
+}
+
+/// Whether types are checked is what the text says.
+#[test]
+fn typechecks(rt: HostRuntime) {
+    let m = Maker::new(&rt, rt.alloc());
+    let (_codemap, tree, _, is_checked) = m.parsed("# @starlark-rust: typecheck\n").into_parts();
+    leave(tree);
+    holds(&rt, is_checked);
+    let (_codemap, tree, _, is_checked) = m.parsed("").into_parts();
+    leave(tree);
+    holds(&rt, !is_checked);
 }
 
 #[test]

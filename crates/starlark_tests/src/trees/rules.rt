@@ -31,10 +31,10 @@ fn is_name(x: &AstAssignTarget, text: &str, at: Span) -> bool {
 #[test]
 fn late(rt: HostRuntime) {
     let m = Maker::new(&rt, rt.alloc());
-    let module = m.parsed("if x: pass");
+    let module = m.parsed("if x: pass\n");
     let found = m.made(rules_of(rt.alloc(), module.statement(), &Dialect::Standard));
     count(&rt, found.len(), 1);
-    equal(&rt, found[0].span, span(0, 10));
+    equal(&rt, found[0].span, span(0, 11));
     holds(&rt, matches!(found[0].node, Rule::IfOutsideDef));
     let found = m.made(rules_of(rt.alloc(), module.statement(), &Dialect::Extended));
     holds(&rt, found.is_empty());
