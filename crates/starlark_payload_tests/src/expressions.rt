@@ -1,6 +1,7 @@
 //! Payload maps of expressions. Trees are left in the end: how they are let go is proved anew in each
 //! crate that does so.
 
+use crate::check::equal;
 use crate::common::{Counter, Numbered, assigned, read};
 use crate::maker::{Maker, leave};
 use starlark_ast::ast::{AstExpr, AstExprP, Expr, ExprP, LambdaP, ParameterP};
@@ -49,7 +50,7 @@ fn a_lambda(rt: HostRuntime) {
     let tree = lambda(m);
     let tree: AstExprP<Numbered> = m.made(ExprPExt::into_map_payload(tree, alloc, &mut counter));
     // the parameter 0, the body 1, the lambda 2
-    assert_eq!(rt; numbers_of_lambda(&tree), 12);
-    assert_eq!(rt; counter.next, 3);
+    equal(&rt, numbers_of_lambda(&tree), 12);
+    equal(&rt, counter.next, 3);
     leave(tree);
 }

@@ -2,6 +2,7 @@
 //! each is Ok, prints what the tree prints, and calls its function once for each payload. A row is a small text with the form
 //! and the number of payloads. Trees are left in the end: how they are let go is proved anew in each crate that does so.
 
+use crate::check::equal_in;
 use crate::common::{Counter, Numbered};
 use crate::parsed::{clause, expression, parameter, printed, target, tree};
 use starlark_ast::ast::{
@@ -191,8 +192,8 @@ fn map_of_clause(alloc: Global, x: Clause) -> Mapped {
 // both maps print the text that is wanted, and called their function so often
 fn agree(rt: &impl Abort, text: &str, want: (String, u8), alone: Mapped, placed: Mapped) {
     let want: Mapped = Ok(want);
-    assert_eq!(rt; alone, want, "{text}");
-    assert_eq!(rt; placed, want, "{text}");
+    equal_in(rt, text, &alone, &want);
+    equal_in(rt, text, &placed, &want);
 }
 
 fn statement(rt: &impl Abort, alloc: Global, text: &str, payloads: u8) -> Result<(), Fail> {
@@ -261,7 +262,7 @@ fn clauses(rt: HostRuntime) -> Result<(), Fail> {
     for (text, payloads) in &CLAUSES {
         let want = (printed(alloc, clause(alloc, text)?)?, *payloads);
         let alone = map_of_clause(alloc, clause(alloc, text)?);
-        assert_eq!(rt; alone, Ok(want), "{text}");
+        equal_in(&rt, text, alone, Ok(want));
     }
     Ok(())
 }

@@ -3,6 +3,7 @@
 ghost use Rattle.std.specs.Prelude.{◌≡◌, ◌≤◌};
 ghost use Rattle.starlark_place.specs.Place.{extent};
 
+use crate::check::{equal, holds};
 use crate::common::{Counter, Numbered, assigned, read};
 use crate::maker::Maker;
 use starlark_ast::ast::{
@@ -25,24 +26,24 @@ fn names(rt: HostRuntime) {
     let m = &Maker::new(&rt, alloc);
     let mut counter = Counter::new();
     let x: IdentP<Numbered> = m.made(read(m, "x").into_map_payload(alloc, &mut counter));
-    assert_eq!(rt; x.ident.as_str(), "x");
-    assert_eq!(rt; x.payload, 0);
+    equal(&rt, x.ident.as_str(), "x");
+    equal(&rt, x.payload, 0);
     let y: AssignIdentP<Numbered> = m.made(assigned(m, "y").into_map_payload(alloc, &mut counter));
-    assert_eq!(rt; y.ident.as_str(), "y");
-    assert_eq!(rt; y.payload, 1);
+    equal(&rt, y.ident.as_str(), "y");
+    equal(&rt, y.payload, 1);
     let z: AstIdentP<Numbered> = m.made(
         read(m, "z").ast(2, 3).into_map_payload(alloc, &mut counter),
     );
-    assert_eq!(rt; z.span, span(2, 3));
-    assert_eq!(rt; z.node.payload, 2);
+    equal(&rt, z.span, span(2, 3));
+    equal(&rt, z.node.payload, 2);
     let w = assigned(m, "w").ast(4, 5);
     let w: AstAssignIdentP<Numbered> = m.made(AssignIdentPExt::into_map_payload(
         w,
         alloc,
         &mut counter,
     ));
-    assert_eq!(rt; w.span, span(4, 5));
-    assert_eq!(rt; w.node.payload, 3);
+    equal(&rt, w.span, span(4, 5));
+    equal(&rt, w.node.payload, 3);
 }
 
 #[test]
@@ -61,13 +62,13 @@ fn loads(rt: HostRuntime) {
     };
     let mut counter = Counter::new();
     let load: LoadP<Numbered> = m.made(load.into_map_payload(alloc, &mut counter));
-    assert!(rt; counter.is_of_m);
-    assert_eq!(rt; counter.next, 2);
-    assert_eq!(rt; load.payload, 0);
+    holds(&rt, counter.is_of_m);
+    equal(&rt, counter.next, 2);
+    equal(&rt, load.payload, 0);
     for arg in &load.args {
-        assert_eq!(rt; arg.local.node.payload, 1);
-        assert_eq!(rt; arg.local.span, span(10, 13));
-        assert!(rt; arg.comma.is_some());
+        equal(&rt, arg.local.node.payload, 1);
+        equal(&rt, arg.local.span, span(10, 13));
+        holds(&rt, arg.comma.is_some());
     }
     let arg = LoadArgP {
         local: assigned(m, "b").ast(0, 1),
@@ -75,6 +76,6 @@ fn loads(rt: HostRuntime) {
         comma: None,
     };
     let arg: LoadArgP<Numbered> = m.made(arg.into_map_payload(alloc, &mut counter));
-    assert_eq!(rt; arg.local.node.payload, 2);
-    assert_eq!(rt; arg.their.node.as_str(), "c");
+    equal(&rt, arg.local.node.payload, 2);
+    equal(&rt, arg.their.node.as_str(), "c");
 }

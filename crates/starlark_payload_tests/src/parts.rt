@@ -1,5 +1,6 @@
 //! Payload maps of what stands in expressions, by themselves and at a place.
 
+use crate::check::equal;
 use crate::common::{Counter, Numbered, assigned, read};
 use crate::maker::{Maker, leave};
 use starlark_ast::ast::{
@@ -59,7 +60,7 @@ fn an_expression(rt: HostRuntime) {
     let m = &Maker::new(&rt, alloc);
     let mut counter = Counter::new();
     let x: ExprP<Numbered> = m.made(name(m).node.into_map_payload(alloc, &mut counter));
-    assert_eq!(rt; counter.next, 1);
+    equal(&rt, counter.next, 1);
     leave(x);
 }
 
@@ -69,11 +70,11 @@ fn types(rt: HostRuntime) {
     let m = &Maker::new(&rt, alloc);
     let mut counter = Counter::new();
     let x: TypeExprP<Numbered> = m.made(a_type(m).into_map_payload(alloc, &mut counter));
-    assert_eq!(rt; x.payload, 1);
+    equal(&rt, x.payload, 1);
     leave(x);
     let x = a_type(m).ast(0, 1);
     let x: AstTypeExprP<Numbered> = m.made(TypeExprPExt::into_map_payload(x, alloc, &mut counter));
-    assert_eq!(rt; x.node.payload, 3);
+    equal(&rt, x.node.payload, 3);
     leave(x);
 }
 
@@ -90,7 +91,7 @@ fn targets(rt: HostRuntime) {
         alloc,
         &mut counter,
     ));
-    assert_eq!(rt; counter.next, 2);
+    equal(&rt, counter.next, 2);
     leave(x);
 }
 
@@ -107,7 +108,7 @@ fn parameters(rt: HostRuntime) {
         alloc,
         &mut counter,
     ));
-    assert_eq!(rt; counter.next, 2);
+    equal(&rt, counter.next, 2);
     leave(x);
 }
 
@@ -125,7 +126,7 @@ fn arguments(rt: HostRuntime) {
         alloc,
         &mut counter,
     ));
-    assert_eq!(rt; counter.next, 2);
+    equal(&rt, counter.next, 2);
     leave(x);
 }
 
@@ -138,7 +139,7 @@ fn f_strings(rt: HostRuntime) {
     leave(x);
     let x = f_string(m).ast(0, 6);
     let x: AstFStringP<Numbered> = m.made(FStringPExt::into_map_payload(x, alloc, &mut counter));
-    assert_eq!(rt; counter.next, 2);
+    equal(&rt, counter.next, 2);
     leave(x);
 }
 
@@ -148,10 +149,10 @@ fn clauses(rt: HostRuntime) {
     let m = &Maker::new(&rt, alloc);
     let mut counter = Counter::new();
     let x: ForClauseP<Numbered> = m.made(for_clause(m).into_map_payload(alloc, &mut counter));
-    assert_eq!(rt; counter.next, 2);
+    equal(&rt, counter.next, 2);
     leave(x);
     let x: Clause = ClauseP::If(name(m));
     let x: ClauseP<Numbered> = m.made(x.into_map_payload(alloc, &mut counter));
-    assert_eq!(rt; counter.next, 3);
+    equal(&rt, counter.next, 3);
     leave(x);
 }

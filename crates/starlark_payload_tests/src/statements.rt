@@ -1,6 +1,7 @@
 //! Payload maps of statements. Trees are left in the end: how they are let go is proved anew in each
 //! crate that does so.
 
+use crate::check::{equal, holds};
 use crate::common::{Counter, Numbered, assigned, read};
 use crate::maker::{Maker, leave};
 use starlark_ast::ast::{
@@ -199,8 +200,8 @@ fn a_def(rt: HostRuntime) {
     let mut counter = Counter::new();
     counter.next = 1;
     let tree: AstStmtP<Numbered> = m.made(StmtPExt::into_map_payload(def(m), alloc, &mut counter));
-    assert_eq!(rt; numbers_of_def(&tree), 123456);
-    assert_eq!(rt; counter.next, 7);
+    equal(&rt, numbers_of_def(&tree), 123456);
+    equal(&rt, counter.next, 7);
     leave(tree);
 }
 
@@ -211,13 +212,13 @@ fn branches_and_a_loop(rt: HostRuntime) {
     let mut counter = Counter::new();
     counter.next = 1;
     let tree: StmtP<Numbered> = m.made(branches(m).into_map_payload(alloc, &mut counter));
-    assert_eq!(rt; numbers_of_branches(&tree), 123);
-    assert_eq!(rt; counter.next, 4);
+    equal(&rt, numbers_of_branches(&tree), 123);
+    equal(&rt, counter.next, 4);
     leave(tree);
     let tree: ForP<Numbered> = m.made(for_loop(m).into_map_payload(alloc, &mut counter));
-    assert_eq!(rt; number_of_target(&tree.var), 4);
-    assert_eq!(rt; number_of(&tree.over), 5);
-    assert_eq!(rt; number_of_line(&tree.body), 6);
+    equal(&rt, number_of_target(&tree.var), 4);
+    equal(&rt, number_of(&tree.over), 5);
+    equal(&rt, number_of_line(&tree.body), 6);
     leave(tree);
 }
 
@@ -227,8 +228,8 @@ fn an_assignment(rt: HostRuntime) {
     let m = &Maker::new(&rt, alloc);
     let mut counter = Counter::new();
     let tree: AssignP<Numbered> = m.made(assignment(m).into_map_payload(alloc, &mut counter));
-    assert_eq!(rt; number_of_target(&tree.lhs), 0);
-    assert_eq!(rt; number_of(&tree.rhs), 1);
+    equal(&rt, number_of_target(&tree.lhs), 0);
+    equal(&rt, number_of(&tree.rhs), 1);
     leave(tree);
 }
 
@@ -239,9 +240,9 @@ fn a_load(rt: HostRuntime) {
     let mut counter = Counter::new();
     counter.next = 1;
     let tree: StmtP<Numbered> = m.made(load(m).into_map_payload(alloc, &mut counter));
-    assert!(rt; counter.is_of_m);
-    assert_eq!(rt; numbers_of_load(&tree), 123);
-    assert!(rt; keeps_names(&tree));
-    assert_eq!(rt; counter.next, 4);
+    holds(&rt, counter.is_of_m);
+    equal(&rt, numbers_of_load(&tree), 123);
+    holds(&rt, keeps_names(&tree));
+    equal(&rt, counter.next, 4);
     leave(tree);
 }

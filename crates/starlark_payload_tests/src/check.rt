@@ -1,0 +1,29 @@
+//! What tests see. An assertion is proved where it stands, and a call of one that stands here costs a tenth of it
+//! (docs/DECISIONS.md, 'The gate').
+
+ghost use Rattle.std.specs.Prelude.{◌≡◌, true};
+
+use std::fmt::Debug;
+use std::process::Abort;
+
+/// It holds.
+pub(crate) fn holds(rt: &impl Abort, found: bool)
+    ensures { found ≡ true }
+{
+    assert!(rt; found);
+}
+
+/// Both are equal.
+pub(crate) fn equal<T: PartialEq + Debug + Drop>(rt: &impl Abort, found: T, wanted: T) {
+    assert_eq!(rt; found, wanted);
+}
+
+/// Both are equal, in a row of a table.
+pub(crate) fn equal_in<T: PartialEq + Debug + Drop>(
+    rt: &impl Abort,
+    row: &str,
+    found: T,
+    wanted: T,
+) {
+    assert_eq!(rt; found, wanted, "{row}");
+}
