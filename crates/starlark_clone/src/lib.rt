@@ -1,4 +1,4 @@
-//! Trees made again: clones, and statements with calls in the place of operations.
+//! Trees made again: clones, and statements with calls in the place of operations. How trees are let go is proved here, too.
 #![tactic(auto)]
 
 mod again;
@@ -8,6 +8,7 @@ pub mod clone_tree;
 mod clones;
 mod clones_of_statements;
 mod copies;
+pub mod discard;
 mod kept;
 mod kept_statements;
 pub mod laws;
