@@ -9,6 +9,7 @@ use crate::fault::EvalException;
 use crate::parsing::module_of;
 use crate::suppression::is_suppressed;
 use starlark_ast::ast::AstStmt;
+use starlark_clone::discard::discard_stmt;
 use starlark_lexer::dialect::Dialect;
 use starlark_place::codemap::{CodeMap, CodeMapId};
 use starlark_place::file_span::FileSpan;
@@ -35,10 +36,11 @@ impl Drop for AstModule {
     fn drop(self) {
         let AstModule {
             codemap: _codemap,
-            statement: _statement,
+            statement,
             dialect: _,
             comments: _comments,
         } = self;
+        discard_stmt(statement);
     }
 }
 

@@ -5,9 +5,12 @@ ghost use Rattle.starlark_clone.specs.Replacing.{renaming, replaced_statement};
 ghost use Rattle.starlark_parser.specs.Modules.{comments_of, dialect_of, file_of, joined_of, tree_of};
 
 use crate::module::AstModule;
+use starlark_clone::discard::discard_stmt;
 use starlark_clone::renaming::with_calls_for_operators;
+use starlark_place::pos::Spanned;
 use std::alloc::{AllocError, Global};
 use std::collections::HashMap;
+use std::mem;
 
 impl AstModule {
     /// Makes each operation whose operator is a key of `replace` a call of the name that stands there, on its two
@@ -27,7 +30,9 @@ impl AstModule {
         ensures joined { joined_of self.new ≡ joined_of self.old }
     {
         let node = with_calls_for_operators(alloc, &self.statement.node, replace)?;
-        self.statement.node = node;
+        let node = mem::replace(&mut self.statement.node, node);
+        let span = self.statement.span;
+        discard_stmt(Spanned { span, node });
         Ok(())
     }
 }

@@ -1,7 +1,7 @@
 //! Targets and assignments.
 
-ghost use Rattle.std.specs.Prelude.{◌≡◌, None, IfOk, IfErr, string_bytes};
-ghost use Rattle.starlark_ast.specs.Tree.{assign, name_at};
+ghost use Rattle.std.specs.Prelude.{◌≡◌, ◌∷◌, ◌++◌, [], None, Some, IfOk, IfErr, Ok, string_bytes};
+ghost use Rattle.starlark_ast.specs.Tree.{assign, name_at, untyped};
 ghost use Rattle.starlark_ast.specs.View.{boxed_type, expr_at, expr_view, ident_at, maybe_type, stmt_view, target_at};
 ghost use Rattle.starlark_place.specs.Place.{Extent};
 ghost use Rattle.starlark_rules.specs.Assignable.{IsAssignable};
@@ -10,11 +10,13 @@ ghost use Rattle.starlark_rulebook.specs.Targets as targets;
 ghost use Rattle.starlark_rulebook.specs.View.{IsPlaced, RefusesFor, maybe_finding};
 
 use crate::finding::{broken_if, refused};
-use crate::waiting::{beside, boxed_beside, keep_first, with_made};
 use starlark_ast::ast::{
     AssignIdentP, AssignOp, AssignP, AssignTargetP, AstAssignIdent, AstAssignTarget, AstExpr,
     AstExprP, AstIdent, AstPayload, AstString, AstTypeExpr, AstTypeExprP, Expr, ExprP, IdentP,
     Stmt, StmtP,
+};
+use starlark_clone::discard::{
+    discard_expr, discard_exprs, discard_target, discard_targets, discard_type,
 };
 use starlark_place::codemap::CodeMap;
 use starlark_place::diagnostic::Refusal;
@@ -36,7 +38,8 @@ pub fn check_assign(
     ensures refused { IfErr result (RefusesFor (targets.target_fault (expr_at expr)) codemap.now) }
 {
     if let Some(found) = target_fault(&expr) {
-        return Err(keep_first(refused(alloc, found, codemap), expr));
+        discard_expr(expr);
+        return Err(refused(alloc, found, codemap));
     }
     match target(alloc, expr) {
         Ok(target) => Ok(target),
@@ -62,7 +65,10 @@ pub fn check_assignment(
     ensures refused { IfErr result (RefusesFor (targets.assignment_fault (expr_at lhs) (boxed_type ty) op) codemap.now) }
 {
     if let Some(found) = assignment_fault(&lhs, &ty, op) {
-        return Err(keep_first(refused(alloc, found, codemap), (lhs, ty, rhs)));
+        discard_expr(lhs);
+        discard_type(ty);
+        discard_expr(rhs);
+        return Err(refused(alloc, found, codemap));
     }
     match assignment(alloc, lhs, ty, op, rhs) {
         Ok(made) => Ok(made),
@@ -133,7 +139,14 @@ pub fn assignment(
     requires { targets.assignment_fault (expr_at lhs) (boxed_type ty) op ≡ None }
     ensures { IfOk result (λ x. (s : Extent) → stmt_view x s ≡ assign (targets.target_of (expr_at lhs)) (boxed_type ty) op (expr_at rhs) s) }
 {
-    let (lhs, (ty, rhs)) = beside(target(alloc, lhs), (ty, rhs))?;
+    let lhs = match target(alloc, lhs) {
+        Ok(lhs) => lhs,
+        Err(e) => {
+            discard_type(ty);
+            discard_expr(rhs);
+            return Err(e);
+        }
+    };
     match op {
         None => Ok(StmtP::Assign(AssignP {
             lhs,
@@ -141,8 +154,27 @@ pub fn assignment(
             rhs,
         })),
         Some(op) => {
-            let (rhs, lhs) = boxed_beside(alloc, rhs, keep_first(lhs, ty))?;
-            Ok(StmtP::AssignModify(lhs, op, rhs))
+            discard_type(ty);
+            modification(alloc, lhs, op, rhs)
+        }
+    }
+}
+
+/// The assignment to a target with an operator before `=`.
+fn modification(
+    alloc: Global,
+    lhs: AstAssignTarget,
+    op: AssignOp,
+    rhs: AstExpr,
+) -> Result<Stmt, AllocError>
+    ensures { IfOk result (λ x. (s : Extent) → stmt_view x s ≡ assign (target_at lhs) untyped (Some op) (expr_at rhs) s) }
+{
+    match Box::new(alloc, rhs) {
+        Ok(rhs) => Ok(StmtP::AssignModify(lhs, op, rhs)),
+        Err(failed) => {
+            discard_target(lhs);
+            discard_expr(failed.value);
+            Err(AllocError)
         }
     }
 }
@@ -181,7 +213,10 @@ pub fn target(alloc: Global, x: AstExpr) -> Result<AstAssignTarget, AllocError>
             let node = AssignTargetP::Identifier(name);
             Ok(Spanned { span, node })
         }
-        Assignable::No(_) => unreachable!(),
+        Assignable::No(node) => {
+            discard_expr(Spanned { span, node });
+            unreachable!()
+        }
     }
 }
 
@@ -217,11 +252,41 @@ fn several(alloc: Global, xs: Vec<AstExpr>) -> Result<Vec<AstAssignTarget>, Allo
     rest.reverse();
     let mut done = Vec::new(alloc);
     while let Some(x) = rest.pop() {
-        let (more, left) = with_made(done, target(alloc, x), rest)?;
+        let (more, left) = with_target(done, target(alloc, x), rest)?;
         done = more;
         rest = left;
     }
-    Ok(keep_first(done, rest))
+    discard_exprs(rest);
+    Ok(done)
+}
+
+/// Targets with one more that was made, and the expressions that waited for it. Where it was not made all are let go.
+fn with_target(
+    done: Vec<AstAssignTarget>,
+    made: Result<AstAssignTarget, AllocError>,
+    waiting: Vec<AstExpr>,
+) -> Result<(Vec<AstAssignTarget>, Vec<AstExpr>), AllocError>
+    ensures more { IfOk result (λ b. (x : _) × (made ≡ Ok x) × (b.0.items ≡ done.items ++ x ∷ [])) }
+    ensures waiting { IfOk result (λ b. b.1 ≡ waiting) }
+{
+    let mut done = done;
+    let pushed = match made {
+        Ok(x) => done.push(x),
+        Err(e) => {
+            discard_targets(done);
+            discard_exprs(waiting);
+            return Err(e);
+        }
+    };
+    match pushed {
+        Ok(()) => Ok((done, waiting)),
+        Err(failed) => {
+            discard_target(failed.value);
+            discard_targets(done);
+            discard_exprs(waiting);
+            Err(AllocError)
+        }
+    }
 }
 
 /// An identifier that is assigned.

@@ -16,6 +16,5 @@ mod statements;
 pub mod tree;
 pub mod type_expr;
 pub mod types;
-mod waiting;
 
 pub use starlark_rulebook::rule;
