@@ -1,5 +1,7 @@
 //! How a run ends, and how the program tells it.
 
+ghost use Rattle.std.specs.Prelude.{◌≡◌, codes, IfOk, IfErr};
+
 use std::io;
 
 /// How a run ended.
@@ -40,7 +42,11 @@ impl RunFault {
 }
 
 /// The status that the program ends with: 0 after the last answer, 2 after `bad`, 1 after a fault.
-pub(crate) fn status(end: &Result<End, RunFault>) -> u8 {
+pub(crate) fn status(end: &Result<End, RunFault>) -> u8
+    ensures whole { IfOk end.now (λ e. e ≡ End.Whole → result ≡ 0) }
+    ensures bad { IfOk end.now (λ e. e ≡ End.Bad → result ≡ 2) }
+    ensures fault { IfErr end.now (λ _. result ≡ 1) }
+{
     match end {
         Ok(End::Whole) => 0,
         Ok(End::Bad) => 2,
@@ -49,7 +55,11 @@ pub(crate) fn status(end: &Result<End, RunFault>) -> u8 {
 }
 
 /// What the program says of a fault, without a line feed.
-pub(crate) fn fault_line(fault: &RunFault) -> &'static str {
+pub(crate) fn fault_line(fault: &RunFault) -> &'static str
+    ensures read { fault.now ≡ RunFault.Read → result.now ≡ codes "fault: read" }
+    ensures write { fault.now ≡ RunFault.Write → result.now ≡ codes "fault: write" }
+    ensures memory { fault.now ≡ RunFault.Memory → result.now ≡ codes "fault: memory" }
+{
     match fault {
         RunFault::Read => "fault: read",
         RunFault::Write => "fault: write",

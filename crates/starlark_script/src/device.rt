@@ -1,6 +1,6 @@
 //! Readers and writers that tell whether a call of theirs failed.
 
-ghost use Rattle.std.specs.Prelude.{◌≡◌, ℕ, Bool, true, false, length};
+ghost use Rattle.std.specs.Prelude.{◌≡◌, ◌<◌, ℕ, Bool, true, false, length};
 ghost use Rattle.std.specs.Io.{ReadsAtMost, WritesAtMost};
 ghost use Rattle.std.specs.Io.KnownBytes.{ReadConsumes, WriteAppends, Keeps};
 ghost use Rattle.starlark_script.specs.Device.{FailsWith, CountsOn, StallsWith};
@@ -16,15 +16,17 @@ pub trait Source: Read {
     // how many calls of `pull` were made
     ghost reads: { Self → ℕ };
 
-    // how many of them gave no byte where there was room
+    // how many of them gave no byte
     ghost ends: { Self → ℕ };
 
     /// Whether a call has answered an `Err`.
     fn failed(&self) -> bool
         ensures { result ≡ has_failed self.now };
 
-    /// One call of `read`. It is a method of its own, since the clauses of `read` say nothing of `failed`.
+    /// One call of `read`, with room for a byte at least. It is a method of its own, since the clauses of `read` say
+    /// nothing of `failed`.
     fn pull(&mut self, buf: &mut [u8]) -> io::Result<usize>
+        requires room { 0 < length buf.old }
         ensures bound { ReadsAtMost result buf.new }
         ensures bytes { ReadConsumes (Self.remaining self.old) (Self.remaining self.new) result buf.new }
         ensures fails { FailsWith (has_failed self.old) (has_failed self.new) result }
@@ -39,15 +41,17 @@ pub trait Sink: Write {
     // how many calls of `put` were made
     ghost writes: { Self → ℕ };
 
-    // how many of them took no byte of some
+    // how many of them took no byte
     ghost stalls: { Self → ℕ };
 
     /// Whether a call has answered an `Err`.
     fn failed(&self) -> bool
         ensures { result ≡ has_failed self.now };
 
-    /// One call of `write`. It is a method of its own, since the clauses of `write` say nothing of `failed`.
+    /// One call of `write`, of a byte at least. It is a method of its own, since the clauses of `write` say nothing of
+    /// `failed`.
     fn put(&mut self, buf: &[u8]) -> io::Result<usize>
+        requires some { 0 < length buf.now }
         ensures bound { WritesAtMost result buf.now }
         ensures bytes { WriteAppends (Self.contents self.old) (Self.contents self.new) result buf.now }
         ensures fails { FailsWith (has_failed self.old) (has_failed self.new) result }
@@ -137,7 +141,8 @@ impl<R: Read> Read for Watched<R> {
         ensures calls { CountsOn 1 self.old.calls self.new.calls }
         ensures stalls { StallsWith self.old.stalls self.new.stalls result (length buf.new) }
     {
-        self.pull(buf)
+        let answer = self.inner.read(buf);
+        self.noted(buf.len(), answer)
     }
 }
 
@@ -153,8 +158,7 @@ impl<R: Read> Source for Watched<R> {
     }
 
     fn pull(&mut self, buf: &mut [u8]) -> io::Result<usize> {
-        let answer = self.inner.read(buf);
-        self.noted(buf.len(), answer)
+        self.read(buf)
     }
 }
 
@@ -168,7 +172,8 @@ impl<W: Write> Write for Watched<W> {
         ensures calls { CountsOn 1 self.old.calls self.new.calls }
         ensures stalls { StallsWith self.old.stalls self.new.stalls result (length buf.now) }
     {
-        self.put(buf)
+        let answer = self.inner.write(buf);
+        self.noted(buf.len(), answer)
     }
 
     fn flush(&mut self) -> io::Result<()>
@@ -197,7 +202,6 @@ impl<W: Write> Sink for Watched<W> {
     }
 
     fn put(&mut self, buf: &[u8]) -> io::Result<usize> {
-        let answer = self.inner.write(buf);
-        self.noted(buf.len(), answer)
+        self.write(buf)
     }
 }

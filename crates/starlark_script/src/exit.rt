@@ -1,6 +1,6 @@
 //! How the program tells the way a run ended.
 
-ghost use Rattle.std.specs.Prelude.{◌≡◌, OnOk};
+ghost use Rattle.std.specs.Prelude.{◌≡◌, IfOk, IsOk, OnOk};
 ghost use Rattle.std.specs.Io.KnownBytes.{Appends};
 ghost use Rattle.std.specs.Process.{exit_status};
 ghost use Rattle.starlark_script.specs.Engine.{fault_text, status_of, told};
@@ -42,7 +42,8 @@ pub fn fault_line(fault: &RunFault) -> &'static str
 /// Writes the line of a fault, and nothing where there was none. Where it answers an `Err` some of it may have been
 /// written.
 pub fn tell<W: Write>(writer: &mut W, end: &Result<End, RunFault>) -> io::Result<()>
-    ensures { OnOk result (Appends (W.contents writer.old) (W.contents writer.new) (told end.now)) }
+    ensures fault { OnOk result (Appends (W.contents writer.old) (W.contents writer.new) (told end.now)) }
+    ensures ended { IfOk end.now (λ _. IsOk result × (writer.new ≡ writer.old)) }
 {
     match end {
         Ok(_) => Ok(()),

@@ -1,6 +1,6 @@
 //! The lines that answer commands, put together before they are written.
 
-ghost use Rattle.std.specs.Prelude.{◌≡◌, ◌≤◌, ◌+◌, [], ◌++◌, codes, decimal, false, length};
+ghost use Rattle.std.specs.Prelude.{◌≡◌, ◌≤◌, ◌+◌, ◌↔◌, [], ◌++◌, codes, decimal, false, length};
 ghost use Rattle.starlark_place.specs.Shown.{shown_pos, shown_end, shown_span};
 ghost use Rattle.starlark_script.specs.Printed.{kind_text, refusal_line, item_line, count_line};
 
@@ -145,7 +145,7 @@ impl Reply {
 
     /// Whether there is no room for the line of a statement.
     pub fn is_full(&self) -> bool
-        ensures { result ≡ false → length self.now + 256 ≤ 4096 }
+        ensures { (result ≡ false) ↔ (length self.now + 256 ≤ 4096) }
     {
         self.len > ROOM - 256
     }

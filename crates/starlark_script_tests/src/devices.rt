@@ -226,14 +226,18 @@ fn no_read_too_many(rt: HostRuntime) {
     equal(&rt, short.reader.calls, 65);
 }
 
-/// A fault is told by its line, and the end of a script by nothing.
+/// Each fault is told by its line, and the end of a script by nothing.
 #[test]
 fn faults_are_told(rt: HostRuntime) {
     let mut writer = Tight::new(&rt, NEVER, NEVER);
-    holds(&rt, tell(&mut writer, &Ok(End::Bad)).is_ok());
-    holds(&rt, tell(&mut writer, &Err(RunFault::Read)).is_ok());
-    let line: &[u8] = b"fault: read\n";
-    equal(&rt, writer.taken.as_slice(), line);
+    for end in [Ok(End::Whole), Ok(End::Bad)] {
+        holds(&rt, tell(&mut writer, &end).is_ok());
+    }
+    for fault in [RunFault::Read, RunFault::Write, RunFault::Memory] {
+        holds(&rt, tell(&mut writer, &Err(fault)).is_ok());
+    }
+    let lines: &[u8] = b"fault: read\nfault: write\nfault: memory\n";
+    equal(&rt, writer.taken.as_slice(), lines);
 }
 
 /// A read of no byte is the end, whatever the reader would give behind it.
@@ -312,12 +316,60 @@ fn watched_flush(rt: HostRuntime) {
     equal(&rt, writer.into_inner().calls, 1);
 }
 
-/// All the room and all the bytes are passed on.
+/// All the room and all the bytes are passed on, by the calls of std and by those of our own.
 #[test]
 fn watched_whole(rt: HostRuntime) {
     let mut reader = Watched::new(Pausing { calls: 0 });
     holds(&rt, matches!(reader.pull(&mut [0u8; 16]), Ok(8)));
+    let mut reader = Watched::new(Pausing { calls: 0 });
+    holds(&rt, matches!(reader.read(&mut [0u8; 16]), Ok(8)));
     let mut writer = Watched::new(Vec::new(rt.alloc()));
     holds(&rt, matches!(writer.put(b"ab"), Ok(2)));
-    count(&rt, writer.into_inner().len(), 2);
+    holds(&rt, matches!(writer.write(b"c"), Ok(1)));
+    count(&rt, writer.into_inner().len(), 3);
+}
+
+/// A read and a write of std that fail are passed on once, and their answer is kept in mind.
+#[test]
+fn watched_failures(rt: HostRuntime) {
+    let script: &[u8] = b"ab";
+    let mut reader = Watched::new(Single {
+        rest: script,
+        fails_at: 0,
+        calls: 0,
+    });
+    holds(
+        &rt,
+        reader.read(&mut [0u8; 2]).is_err() && Source::failed(&reader),
+    );
+    equal(&rt, reader.into_inner().calls, 1);
+    let mut writer = Watched::new(Tight::new(&rt, 1, 0));
+    holds(
+        &rt,
+        matches!(writer.write(b"ab"), Ok(0)) && !Sink::failed(&writer),
+    );
+    holds(&rt, writer.write(b"ab").is_err() && Sink::failed(&writer));
+    equal(&rt, writer.into_inner().calls, 2);
+}
+
+/// Where a call of std is made of several, a failure of one of them is kept in mind, and it is the last.
+#[test]
+fn watched_several(rt: HostRuntime) {
+    let script: &[u8] = b"ab";
+    let mut reader = Watched::new(Single {
+        rest: script,
+        fails_at: 1,
+        calls: 0,
+    });
+    holds(
+        &rt,
+        reader.read_exact(&mut [0u8; 2]).is_err() && Source::failed(&reader),
+    );
+    equal(&rt, reader.into_inner().calls, 2);
+    let mut writer = Watched::new(Tight::new(&rt, 1, NEVER));
+    holds(
+        &rt,
+        writer.write_all(b"ab").is_err() && Sink::failed(&writer),
+    );
+    equal(&rt, writer.into_inner().calls, 2);
 }

@@ -3,9 +3,11 @@
 
 use crate::check::{count, equal, holds};
 use starlark_lexer::dialect::Dialect;
+use starlark_lexer::lexer::Lexer;
 use starlark_parts::fault::PartFault;
 use starlark_parts::parts::Parts;
 use starlark_parts::word::{OutlineItem, Word};
+use starlark_place::codemap::{CodeMap, CodeMapId};
 use std::alloc::{AllocError, Global};
 use std::process::Abort;
 use std::test::Fail;
@@ -171,14 +173,38 @@ fn counted(rt: &impl Abort, parts: &mut Parts) -> Result<(), Fail> {
         rt,
         matches!(parts.replace(0, b"1=\n"), Err(PartFault::Parse(_, _))),
     );
-    holds(rt, parts.last_cost().asks > 0);
-    holds(rt, parts.last_cost().asks <= 5);
+    costs(rt, parts, 3, 3);
     parts.move_part(0, 1)?;
     costs_nothing(rt, parts);
     parts.insert(0, b"# c\n")?;
     costs(rt, parts, 4, 3);
     parts.remove(0)?;
     costs_nothing(rt, parts);
+    Ok(())
+}
+
+/// What an edit tells is what its text takes, from the lexer, up to the end.
+#[test]
+fn costs_of_a_text(rt: HostRuntime) -> Result<(), Fail> {
+    let text = "def f(x):\n  return [x, 1.5, \"a\"] # c\n";
+    let mut parts = Parts::new(rt.alloc(), &Dialect::Standard);
+    let done = parts.insert(0, text.as_bytes());
+    let cost = parts.last_cost();
+    parts.release();
+    done?;
+    let map = CodeMap::new(
+        rt.alloc(),
+        CodeMapId(1),
+        String::from_str(rt.alloc(), "t")?,
+        String::from_str(rt.alloc(), text)?,
+    )?;
+    let mut lexer = Lexer::new(rt.alloc(), text, &Dialect::Standard, map);
+    let mut asks = 1u64;
+    for item in &mut lexer {
+        holds(&rt, item.is_ok());
+        asks = asks.wrapping_add(1);
+    }
+    equal(&rt, (cost.reads, cost.asks), (lexer.reads(), asks));
     Ok(())
 }
 

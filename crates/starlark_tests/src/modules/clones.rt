@@ -72,7 +72,7 @@ fn clones_of_parts(rt: HostRuntime) {
 /// Statements of each form.
 static STATEMENTS: [&str; 6] = [
     "load(\"m\", \"a\", b = \"c\",)\nx = 1; y: list[int] = 2\nz.w += 3\nv[0], [u, (t)] = s\n",
-    "def f(a, /, b: int = 1, *c, d: str, **e) -> None:\n  if a:\n    return\n  elif b:\n    pass\n  return c\n",
+    "def f(a, /, b: int = 1, *c: t, d: str, **e: u) -> None:\n  if a:\n    return\n  elif b:\n    pass\n  return c\n",
     "for i, j[0] in k:\n  if i:\n    break\n  else:\n    continue\n",
     "f\"x{a}y{b}\"\n",
     "def a(): pass",

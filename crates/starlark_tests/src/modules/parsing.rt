@@ -5,6 +5,7 @@ use crate::common::span;
 use crate::maker::{Maker, leave};
 use starlark_ast::ast::StmtP;
 use starlark_lexer::dialect::Dialect;
+use starlark_lexer::lexer::Lexer;
 use starlark_parser::fault::{EvalException, ParserErrorKind};
 use starlark_parser::fields::AstModuleFields;
 use starlark_parser::module::AstModule;
@@ -57,20 +58,47 @@ fn refusals(rt: HostRuntime) {
     }
 }
 
+/// What a text takes from the lexer, up to its end: how often it is asked, and how many looks that takes.
+fn taken(m: &Maker<'_, impl Abort>, alloc: Global, text: &str) -> (u64, u64) {
+    let mut lexer = Lexer::new(alloc, text, &Dialect::Standard, m.map_of(1, "t", text));
+    let mut asks = 1u64;
+    for item in &mut lexer {
+        leave(item);
+        asks = asks.wrapping_add(1);
+    }
+    (asks, lexer.reads())
+}
+
 #[test]
 fn costs(rt: HostRuntime) {
-    let content = Maker::new(&rt, rt.alloc()).text("foo\ndef x():\n   pass");
+    let m = &Maker::new(&rt, rt.alloc());
+    let text = "foo\ndef x():\n   pass";
     let (module, cost) = AstModule::parse_counted(
         rt.alloc(),
         CodeMapId(1),
         "t",
-        content,
+        m.text(text),
         &Dialect::Standard,
     );
     holds(&rt, module.is_ok());
     equal(&rt, cost.asks, 13);
-    holds(&rt, cost.reads >= 20);
-    holds(&rt, cost.reads <= 336);
+    equal(&rt, (cost.asks, cost.reads), taken(m, rt.alloc(), text));
+}
+
+/// A text that a rule refuses is read up to its fault.
+#[test]
+fn costs_of_a_refusal(rt: HostRuntime) {
+    let m = &Maker::new(&rt, rt.alloc());
+    let (module, cost) = AstModule::parse_counted(
+        rt.alloc(),
+        CodeMapId(1),
+        "t",
+        m.text("1 = 2 )"),
+        &Dialect::Standard,
+    );
+    holds(&rt, module.is_err());
+    equal(&rt, cost.asks, 4);
+    holds(&rt, cost.reads >= 7);
 }
 
 /// Whether types are checked is what the text says.
