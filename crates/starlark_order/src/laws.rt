@@ -33,8 +33,8 @@ pub fn ordered_outline()
     firm_tokens();
 }
 
-/// Each statement in the tree of a text, and each part of one that has a place, begins before the
-/// text's end.
+/// Each statement in the tree of a text, but the list of all of them, and each part of one that has a place, begins before
+/// the text's end.
 pub fn firm_trees()
     ensures { (dialect : Dialect) (text : List ℕ) (tree : Statement) → Language dialect text tree → All (λ k. k < length text) (tree_begins tree) }
 {

@@ -40,6 +40,24 @@ fn late(rt: HostRuntime) {
     holds(&rt, found.is_empty());
 }
 
+/// A load, a `def` and a lambda, in a dialect that has none of them.
+#[test]
+fn late_without(rt: HostRuntime) {
+    let m = Maker::new(&rt, rt.alloc());
+    let module = m.parsed("load(\"m\", \"a\")\ndef f(): return lambda: a\n");
+    let dialect = Dialect {
+        enable_def: false,
+        enable_lambda: false,
+        enable_load: false,
+        ..Dialect::Standard
+    };
+    let found = m.made(rules_of(rt.alloc(), module.statement(), &dialect));
+    count(&rt, found.len(), 3);
+    holds(&rt, matches!(found[0].node, Rule::LoadDisabled));
+    holds(&rt, matches!(found[1].node, Rule::DefDisabled));
+    holds(&rt, matches!(found[2].node, Rule::LambdaDisabled));
+}
+
 #[test]
 fn targets(rt: HostRuntime) {
     let m = &Maker::new(&rt, rt.alloc());
