@@ -5,6 +5,7 @@ pub mod Nodes
 pub mod Places
 pub mod Printing
 pub mod Shown
+pub mod Small
 pub mod StatementViews
 pub mod Statements
 pub mod Tree

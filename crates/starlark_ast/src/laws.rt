@@ -43,3 +43,12 @@ pub fn clones_are_copies()
     ensures payloads { (x y : AstNoPayload) → ⟦<AstNoPayload as Clone>⟧.is_clone x y → y ≡ x }
     ensures commas { (x y : Comma) → ⟦<Comma as Clone>⟧.is_clone x y → y ≡ x }
 {}
+
+/// It is made whatever memory there is.
+pub fn clones_succeed()
+    ensures operators { (x : BinOp) → ⟦<BinOp as Clone>⟧.is_infallible x }
+    ensures assigning { (x : AssignOp) → ⟦<AssignOp as Clone>⟧.is_infallible x }
+    ensures visibilities { (x : Visibility) → ⟦<Visibility as Clone>⟧.is_infallible x }
+    ensures payloads { (x : AstNoPayload) → ⟦<AstNoPayload as Clone>⟧.is_infallible x }
+    ensures commas { (x : Comma) → ⟦<Comma as Clone>⟧.is_infallible x }
+{}

@@ -1,7 +1,8 @@
 //! Clones of what holds no expression: literals, names and loads.
 
-ghost use Rattle.std.specs.Prelude.{◌≡◌, IfOk, string_bytes};
+ghost use Rattle.std.specs.Prelude.{◌≡◌, IfOk, IsOk, string_bytes};
 ghost use Rattle.starlark_place.specs.Place.{Extent};
+ghost use Rattle.starlark_ast.specs.Small.{HoldsNothing, IsSmall};
 ghost use Rattle.starlark_ast.specs.View.{comma_at, ident_at, literal_view, load_view, text_at};
 ghost use Rattle.starlark_lexer.specs.Items.{number_of};
 
@@ -23,7 +24,8 @@ pub(crate) fn text(alloc: Global, x: &str, span: Span) -> Result<AstString, Allo
 
 // a number again
 fn number(alloc: Global, x: &TokenInt) -> Result<TokenInt, AllocError>
-    ensures { IfOk result (λ y. number_of y ≡ number_of x.now) }
+    ensures same { IfOk result (λ y. number_of y ≡ number_of x.now) }
+    ensures small { IsSmall x.now → IsOk result }
 {
     match x {
         TokenInt::I32(n) => Ok(TokenInt::I32(*n)),
@@ -43,9 +45,10 @@ fn number(alloc: Global, x: &TokenInt) -> Result<TokenInt, AllocError>
 }
 
 impl AstLiteral {
-    /// The same literal, with texts of its own.
+    /// The same literal, with texts of its own. One that holds no text, and no number of more than 32 bits, is never refused.
     pub fn clone(&self, alloc: Global) -> Result<AstLiteral, AllocError>
-        ensures { IfOk result (λ x. (s : Extent) → literal_view x s ≡ literal_view self.now s) }
+        ensures same { IfOk result (λ x. (s : Extent) → literal_view x s ≡ literal_view self.now s) }
+        ensures taken { HoldsNothing self.now → IsOk result }
     {
         match self {
             AstLiteral::Int(x) => {

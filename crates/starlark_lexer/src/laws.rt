@@ -113,3 +113,14 @@ pub fn clones_are_copies()
     ensures braces { (x y : EscapeCurlyBrace) → ⟦<EscapeCurlyBrace as Clone>⟧.is_clone x y → y ≡ x }
     ensures faults { (x y : LexemeError) → ⟦<LexemeError as Clone>⟧.is_clone x y → y ≡ x }
 {}
+
+/// It is made whatever memory there is.
+pub fn clones_succeed()
+    ensures types { (x : DialectTypes) → ⟦<DialectTypes as Clone>⟧.is_infallible x }
+    ensures dialects { (x : Dialect) → ⟦<Dialect as Clone>⟧.is_infallible x }
+    ensures quotes { (x : FStringQuote) → ⟦<FStringQuote as Clone>⟧.is_infallible x }
+    ensures conversions { (x : FStringConv) → ⟦<FStringConv as Clone>⟧.is_infallible x }
+    ensures captures { (x : FormatConv) → ⟦<FormatConv as Clone>⟧.is_infallible x }
+    ensures braces { (x : EscapeCurlyBrace) → ⟦<EscapeCurlyBrace as Clone>⟧.is_infallible x }
+    ensures faults { (x : LexemeError) → ⟦<LexemeError as Clone>⟧.is_infallible x }
+{}

@@ -106,3 +106,13 @@ pub fn clones_are_copies()
     ensures counts { (p q : CharIndex) → ⟦<CharIndex as Clone>⟧.is_clone p q → q ≡ p }
     ensures ids { (p q : CodeMapId) → ⟦<CodeMapId as Clone>⟧.is_clone p q → q ≡ p }
 {}
+
+/// It is made whatever memory there is.
+pub fn clones_succeed()
+    ensures places { (p : Pos) → ⟦<Pos as Clone>⟧.is_infallible p }
+    ensures stretches { (s : Span) → ⟦<Span as Clone>⟧.is_infallible s }
+    ensures lines { (p : ResolvedPos) → ⟦<ResolvedPos as Clone>⟧.is_infallible p }
+    ensures line_stretches { (s : ResolvedSpan) → ⟦<ResolvedSpan as Clone>⟧.is_infallible s }
+    ensures counts { (p : CharIndex) → ⟦<CharIndex as Clone>⟧.is_infallible p }
+    ensures ids { (p : CodeMapId) → ⟦<CodeMapId as Clone>⟧.is_infallible p }
+{}

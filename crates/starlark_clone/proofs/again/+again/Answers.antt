@@ -227,7 +227,7 @@ expression-returns-in_ok-clone-in-Literal g n c =
     let r = g.R.Rename.renames c.args.by.now in
     let s = c.args.span in
     c.literal.ensures s
-    ∙ c.in_ok-clone-in-Literal.ensures s
+    ∙ c.in_ok-clone-in-Literal.ensures.same s
     ∙ sym (literal_again r c.in-Literal.literal s)
     ∙ sym (ap (replaced r) (ap (λ y. expr_view y s) c.in-Literal.is ∙ expr_view-Literal _ _ _ _ _ _ c.in-Literal.literal s))
 
