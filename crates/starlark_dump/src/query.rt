@@ -1,5 +1,7 @@
 //! What a query asks: a word, a dialect, and how many bytes of text stand behind its line.
 
+ghost use Rattle.std.specs.Prelude.{◌≤◌, IfSome, length};
+
 use crate::module::Shown;
 use starlark_lexer::dialect::Dialect;
 use std::str::from_utf8;
@@ -54,7 +56,11 @@ fn dialect_named(name: &str) -> Option<Dialect> {
 
 /// The number that one to ten decimal digits spell. None where they are none, more or no digits, or spell more than
 /// `MOST`.
-fn number(digits: &str) -> Option<u64> {
+fn number(digits: &str) -> Option<u64>
+    ensures some { IfSome result (λ n. 1 ≤ length digits.now) }
+    ensures few { IfSome result (λ n. length digits.now ≤ 10) }
+    ensures most { IfSome result (λ n. n ≤ 4294967295) }
+{
     if digits.is_empty() || digits.len() > 10 {
         return None;
     }

@@ -21,8 +21,9 @@ use std::test::Fail;
 type Mapped = Result<(String, u8), AllocError>;
 
 /// Each form of an expression, and in some of them each form of an argument, a parameter and a clause.
-static EXPRESSIONS: [(&str, u8); 45] = [
+static EXPRESSIONS: [(&str, u8); 46] = [
     ("()", 0),
+    ("[abc, def_.ghi, \"\", \"é\", 2147483647, 0]", 2),
     ("(a, b)", 2),
     ("a.b", 1),
     ("a()", 1),

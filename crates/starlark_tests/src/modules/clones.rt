@@ -8,12 +8,15 @@ use starlark_ast::ast::{AstStmt, ExprP, StmtP};
 use starlark_clone::clone_tree::CloneTree;
 
 /// Expressions of each form.
-static EXPRESSIONS: [&str; 11] = [
+static EXPRESSIONS: [&str; 14] = [
     "[(), (1, 2), [3, 0x80000000], {4: 5.5, \"a\": \"b\"}]",
     "a.b[c](d, e = f, *g, **h)[i, j][k:l:m][:]",
     "not a and -b + +c * ~d or (... if e else f)",
     "[a for (b, c[0]), d.e in f if g for h in i]",
     "{a: b for c in d}",
+    "{a: b for c in d if e for f in g}",
+    "[a == b, a != b, a < b, a > b, a <= b, a >= b, a in b, a not in b, a - b, a % b, a / b, a // b, a & b, a | b, a ^ b, a << b, a >> b]",
+    "f(b\"a\\xff\", b\"\")",
     "f\"x{a}y{b}\"",
     "lambda a, b = 1, *args, c, **kwargs: lambda *, d: a",
     "a()",
@@ -70,8 +73,10 @@ fn clones_of_parts(rt: HostRuntime) {
 }
 
 /// Statements of each form.
-static STATEMENTS: [&str; 6] = [
+static STATEMENTS: [&str; 8] = [
     "load(\"m\", \"a\", b = \"c\",)\nx = 1; y: list[int] = 2\nz.w += 3\nv[0], [u, (t)] = s\n",
+    "load(\"m\", \"a\")\nload(\"m\", \"a\", b = \"c\")\n",
+    "a -= b; a *= b; a /= b; a //= b; a %= b; a &= b; a |= b; a ^= b; a <<= b; a >>= b\n",
     "def f(a, /, b: int = 1, *c: t, d: str, **e: u) -> None:\n  if a:\n    return\n  elif b:\n    pass\n  return c\n",
     "for i, j[0] in k:\n  if i:\n    break\n  else:\n    continue\n",
     "f\"x{a}y{b}\"\n",
