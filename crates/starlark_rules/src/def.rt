@@ -334,47 +334,41 @@ impl Tally {
         requires positional { self.indices.num_positional ≤ self.count }
         ensures { result ≡ with_member self (parameter_at x.now) }
     {
-        let Tally {
-            indices,
-            count,
-            starred,
-        } = self;
+        let indices = self.indices;
         match &x.node {
             ParameterP::Slash => Tally {
                 indices: DefParamIndices {
-                    num_positional_only: count,
+                    num_positional_only: self.count,
                     ..indices
                 },
-                count,
-                starred,
+                ..self
             },
             ParameterP::NoArgs => Tally {
-                indices,
-                count,
                 starred: true,
+                ..self
             },
             ParameterP::Normal(_, _, _) => Tally {
                 indices: DefParamIndices {
-                    num_positional: indices.num_positional + u32::from(!starred),
+                    num_positional: indices.num_positional + u32::from(!self.starred),
                     ..indices
                 },
-                count: count + 1,
-                starred,
+                count: self.count + 1,
+                ..self
             },
             ParameterP::Args(_, _) => Tally {
                 indices: DefParamIndices {
-                    args: Some(count),
+                    args: Some(self.count),
                     ..indices
                 },
-                count: count + 1,
+                count: self.count + 1,
                 starred: true,
             },
             ParameterP::KwArgs(_, _) => Tally {
                 indices: DefParamIndices {
-                    kwargs: Some(count),
+                    kwargs: Some(self.count),
                     ..indices
                 },
-                count: count + 1,
+                count: self.count + 1,
                 starred: true,
             },
         }

@@ -139,43 +139,28 @@ impl Kinds {
         ensures doubles { result.double_starred ≡ (if parameters.is_double_starred (parameter_at x.now) then true else self.double_starred) }
         ensures optionals { result.optional ≡ (if parameters.is_optional (parameter_at x.now) then true else self.optional) }
     {
-        let Kinds {
-            mark,
-            starred,
-            double_starred,
-            optional,
-        } = self;
         match &x.node {
-            ParameterP::Slash => Kinds {
-                mark: true,
-                starred,
-                double_starred,
-                optional,
-            },
+            ParameterP::Slash => Kinds { mark: true, ..self },
             ParameterP::Normal(_, _, None) => self,
             ParameterP::Normal(_, _, Some(_)) => Kinds {
-                mark,
-                starred,
-                double_starred,
                 optional: true,
+                ..self
             },
             ParameterP::NoArgs => Kinds {
                 mark: true,
                 starred: true,
-                double_starred,
-                optional,
+                ..self
             },
             ParameterP::Args(_, _) => Kinds {
                 mark: true,
                 starred: true,
-                double_starred,
-                optional,
+                ..self
             },
             ParameterP::KwArgs(_, _) => Kinds {
                 mark: true,
                 starred: true,
                 double_starred: true,
-                optional,
+                ..self
             },
         }
     }
