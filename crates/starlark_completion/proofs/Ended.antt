@@ -16,7 +16,7 @@ use Rattle.starlark_grammar.specs.Language.{bare, IsViable}
 use Rattle.starlark_cutting.specs.Cutting.{indent_item}
 use Rattle.starlark_cutting.specs.Opened.{outside, Way, Put, put_lexemes}
 use Rattle.starlark_completion.specs.Shapes.{depth, nest, Stage, at_beginning, in_block, before_block, stage, is_within}
-use Rattle.starlark_completion.specs.Ending.{no_token, last_of, goes_on_line, copies, Goes, Ending, CanEnd, IsAtLine}
+use Rattle.starlark_completion.specs.Ending.{no_token, a_dedent, kind_of, last_of, goes_on_line, copies, Goes, Ending, CanEnd, IsAtLine, IsBehindBlock}
 use Rattle.starlark_completion.specs.Ending as ending
 use Rattle.starlark_completion.specs.Laws.{Laws}
 use Rattle.starlark_completion.proofs.Counting.{even}
@@ -25,9 +25,10 @@ use Rattle.starlark_completion.proofs.Running.{Accepted, accepted_step, accepted
 use Rattle.starlark_completion.proofs.Lined.{newlines, lined}
 use Rattle.starlark_completion.proofs.Closed.{front_of}
 use Rattle.starlark_completion.proofs.Completed.{InLine, closes}
-use Rattle.starlark_completion.proofs.Ways.{path_way, path_depth, path_stage, Where, a_line, a_beginning, a_block, a_blank, where_it_is}
-use Rattle.starlark_completion.proofs.Passed.{pass_lines, spelled_bare, dedents_bare, lines_bare}
+use Rattle.starlark_completion.proofs.Ways.{Fits, path_way, path_depth, path_stage, Where, a_line, a_beginning, a_block, a_blank, where_it_is}
+use Rattle.starlark_completion.proofs.Passed.{falls, pass_lines, spelled_bare, dedents_bare, lines_bare}
 use Rattle.starlark_completion.proofs.Dedented.{dedent_begins}
+use Rattle.starlark_completion.proofs.Cutting.{last_there}
 
 -- in a line
 pub record InLineEnding (w : List Item) (s : State) : Type 0 where
@@ -128,9 +129,28 @@ before_dedent laws w rest z raw d q =
     let g = dedent_begins r.state h.state z q h.steps in
     record { depth = depth r.state; blocks = blocks_open r.path; even = line_even r.path (ap is_within g); goes = line_goes laws r.path g }
 
+-- behind a Dedent one begins too
+pub behind_dedent : Laws → (w rest : List Item) (raw : Statement) → Derives (w ++ rest) raw → last_of no_token w ≡ a_dedent → IsBehindBlock w
+behind_dedent laws w rest raw d q =
+    let r = reached w rest initial (raw, laws.complete (w ++ rest) raw d) in
+    let s = r.state in
+    let g : stage s ≡ at_beginning = subst (λ l. Fits l (stage s)) q (path_stage no_token r.path refl) in
+    record {
+      depth = depth s;
+      blocks = blocks_open r.path;
+      goes = λ j k n e.
+          let u = item 0 keyword_pass 0 ∷ item 0 newline 0 ∷ newlines n (dedents 0 k) in
+          let v = dedents 0 j ++ u in
+          goes_by laws (w ++ v) _ (runs_on r.path v (falls j k n s g e))
+          (lexemes_behind w v _ (lexemes_behind (dedents 0 j) u _ (ap (λ ys. keyword_pass ∷ newline ∷ ys) (lines_bare n k)) ∙ ap (λ ys. ys ++ (keyword_pass ∷ newline ∷ (copies n newline ++ copies k dedent))) (dedents_bare j)));
+    }
+
 -- where a rule does not matter
 pub viable_ends : Laws → (dialect : Dialect) (w : List Item) → IsViable dialect w → goes_on_line (last_of no_token w) ≡ false → CanEnd w
 viable_ends laws dialect w v q = can_end laws w v.rest v.raw v.derives q
 
 pub viable_line : Laws → (dialect : Dialect) (w : List Item) (z : Item) → z.lexeme ≡ dedent → IsViable dialect (w ++ z ∷ []) → IsAtLine w
 viable_line laws dialect w z q v = before_dedent laws w v.rest z v.raw (subst (λ u. Derives u v.raw) (append_assoc w (z ∷ []) v.rest) v.derives) q
+
+pub viable_block : Laws → (dialect : Dialect) (w : List Item) (z : Item) → z.lexeme ≡ dedent → IsViable dialect (w ++ z ∷ []) → IsBehindBlock (w ++ z ∷ [])
+viable_block laws dialect w z q v = behind_dedent laws (w ++ z ∷ []) v.rest v.raw v.derives (last_there no_token w z ∙ ap kind_of q)

@@ -2,15 +2,15 @@
 use Rattle.std.proofs.Common.{ℕ, ◌≡◌, ◌∷◌, ◌∙◌, [], zero, suc, List, Some, None, refl, sym, subst}
 use Rattle.starlark_rulebook.specs.Targets.{target_of}
 use Rattle.starlark_grammar.specs.Spans.{stretch}
-use Rattle.starlark_lexer.specs.Items.{newline, dedent, dedents, Item, item}
-use Rattle.starlark_ast.specs.Tree.{Statement, add_statement, define, either, no_statements, repeat, when}
+use Rattle.starlark_lexer.specs.Items.{newline, dedent, dedents, keyword_pass, Item, item}
+use Rattle.starlark_ast.specs.Tree.{Statement, add_statement, define, either, no_statements, pass, repeat, when}
 use Rattle.starlark_grammar.specs.Nodes.{block_of}
-use Rattle.starlark_grammar.specs.Frames.{Blocks, outer, inner, Ifs, at_if, at_elif, Suites, of_if, of_else, of_for, of_def, head, State, at_line, behind_for, behind_if, wants_indent}
-use Rattle.starlark_grammar.specs.Machine.{push, settled, close, step}
+use Rattle.starlark_grammar.specs.Frames.{Blocks, outer, inner, Ifs, at_if, at_elif, Suites, of_if, of_else, of_for, of_def, head, at_block, line, State, at_line, behind_for, behind_if, behind_small, wants_indent}
+use Rattle.starlark_grammar.specs.Machine.{push, settled, close, begin_line, step}
 use Rattle.starlark_grammar.specs.Runs.{Accepts, finish}
 use Rattle.starlark_grammar.proofs.Alike.{bottom_end}
 use Rattle.starlark_completion.specs.Shapes.{block_depth, if_depth, suite_depth, depth, Stage, within, at_beginning, in_block, before_block, block_stage, stage}
-use Rattle.starlark_completion.proofs.MovingFrames.{settled_depth, settled_stage}
+use Rattle.starlark_completion.proofs.MovingFrames.{push_depth, push_stage, settled_depth, settled_stage}
 use Rattle.starlark_completion.proofs.Running.{Accepted, accepted_now, accepted_step, accepted_steps, stuck_not}
 
 -- what behaves at a Dedent and at the end as a line's beginning
@@ -59,6 +59,32 @@ lined (behind_if t s p e k) q (suc n) =
     accepted_step (behind_if t s p e k) (at_line b 0) (item 0 newline 0) (newlines n (dedents 0 (if_depth k))) refl a
 lined (wants_indent k) q n = absurd (let z : before_block ≡ at_beginning = q in (cc))
 lined _ q n = absurd (let z : within ≡ at_beginning = q in (cc))
+
+-- and a line `pass`
+abbrev a_pass : Blocks → State
+a_pass k = behind_small (pass (stretch 0 0)) (line no_statements (at_block k))
+
+pass_begins : (k : Blocks) (e : ℕ) → begin_line k e keyword_pass 0 0 ≡ Some (a_pass k)
+pass_begins (outer ss) e = refl
+pass_begins (inner no_statements k) e = refl
+pass_begins (inner (add_statement ss s) k) e = refl
+
+pass_ends : (k : Blocks) (n : ℕ) → Accepted (a_pass k) (item 0 newline 0 ∷ newlines n (dedents 0 (block_depth k)))
+pass_ends k n =
+    let s = block_of (add_statement no_statements (pass (stretch 0 0))) 0 in
+    let b = push k s in
+    let a : Accepted (at_line b 0) (newlines n (dedents 0 (block_depth k))) = subst (λ d. Accepted (at_line b 0) (newlines n (dedents 0 d))) (push_depth k s) (block_line b (push_stage k s) 0 n) in
+    accepted_step (a_pass k) (at_line b 0) (item 0 newline 0) (newlines n (dedents 0 (block_depth k))) refl a
+
+pub passed : (s : State) → stage s ≡ at_beginning → (n : ℕ) → Accepted s (item 0 keyword_pass 0 ∷ item 0 newline 0 ∷ newlines n (dedents 0 (depth s)))
+passed (at_line k e) q n = accepted_step (at_line k e) (a_pass k) (item 0 keyword_pass 0) (item 0 newline 0 ∷ newlines n (dedents 0 (block_depth k))) (pass_begins k e) (pass_ends k n)
+passed (behind_for l k e) q n = accepted_step (behind_for l k e) (a_pass k) (item 0 keyword_pass 0) (item 0 newline 0 ∷ newlines n (dedents 0 (block_depth k))) (pass_begins k e) (pass_ends k n)
+passed (behind_if t s p e k) q n =
+    let b = settled k (when t s (stretch p e)) e in
+    let a : Accepted (a_pass b) (item 0 newline 0 ∷ newlines n (dedents 0 (if_depth k))) = subst (λ d. Accepted (a_pass b) (item 0 newline 0 ∷ newlines n (dedents 0 d))) (settled_depth k (when t s (stretch p e)) e) (pass_ends b n) in
+    accepted_step (behind_if t s p e k) (a_pass b) (item 0 keyword_pass 0) (item 0 newline 0 ∷ newlines n (dedents 0 (if_depth k))) (pass_begins b e) a
+passed (wants_indent k) q n = absurd (let z : before_block ≡ at_beginning = q in (cc))
+passed _ q n = absurd (let z : within ≡ at_beginning = q in (cc))
 
 -- an open block has a statement
 abbrev Blank : Stage → Type 0

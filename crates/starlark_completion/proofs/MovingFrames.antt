@@ -86,11 +86,11 @@ on_moves r d x None n q k other g h = h
 on_moves r d x (Some s) n q k other g h = either_moves r d x (Some (enter s q k)) other (nat_eq (grade s) n) g h
 
 -- statements end
-push_depth : (k : Blocks) (s : Statement) → block_depth (push k s) ≡ block_depth k
+pub push_depth : (k : Blocks) (s : Statement) → block_depth (push k s) ≡ block_depth k
 push_depth (outer ss) s = refl
 push_depth (inner ss k) s = refl
 
-push_stage : (k : Blocks) (s : Statement) → block_stage (push k s) ≡ at_beginning
+pub push_stage : (k : Blocks) (s : Statement) → block_stage (push k s) ≡ at_beginning
 push_stage (outer ss) s = refl
 push_stage (inner ss k) s = refl
 

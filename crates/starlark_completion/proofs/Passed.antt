@@ -1,6 +1,6 @@
 -- Where what is put behind a text, a line end and Dedents are accepted, they are with more line ends.
-use Rattle.std.proofs.Common.{ℕ, ◌≡◌, ◌∷◌, ◌++◌, ◌∙◌, [], zero, suc, List, true, false, refl, ap, subst}
-use Rattle.starlark_lexer.specs.Items.{Lexeme, newline, dedent, dedents, Item, item}
+use Rattle.std.proofs.Common.{ℕ, ◌≡◌, ◌+◌, ◌∷◌, ◌++◌, ◌∙◌, [], zero, suc, List, true, false, refl, ap, subst, arith}
+use Rattle.starlark_lexer.specs.Items.{Lexeme, newline, dedent, dedents, keyword_pass, Item, item}
 use Rattle.starlark_grammar.specs.Frames.{State}
 use Rattle.starlark_grammar.specs.Completion.{spelled}
 use Rattle.starlark_grammar.specs.Language.{bare}
@@ -10,7 +10,7 @@ use Rattle.starlark_completion.specs.Shapes.{depth, Stage, within, at_beginning,
 use Rattle.starlark_completion.specs.Moves.{Deeper}
 use Rattle.starlark_completion.specs.Ending.{copies}
 use Rattle.starlark_completion.proofs.Running.{Accepted, accepted_step, accepted_steps}
-use Rattle.starlark_completion.proofs.Lined.{newlines, lined, blank_not, before_not}
+use Rattle.starlark_completion.proofs.Lined.{newlines, lined, passed, blank_not, before_not}
 use Rattle.starlark_completion.proofs.Ways.{step_moves}
 
 plain_deeper : (p : Plain) (m n : ℕ) → Deeper (lexeme_of p) m n → n ≡ m
@@ -53,6 +53,19 @@ pass_lines (p ∷ l) s k n q a =
     let h = accepted_steps s x (spelled 0 (put_lexemes l) (item 0 newline 0 ∷ dedents 0 k)) a in
     let m = step_moves s h.state x h.steps in
     accepted_step s h.state x (spelled 0 (put_lexemes l) (item 0 newline 0 ∷ newlines n (dedents 0 k))) h.steps (pass_lines l h.state k n (put_deeper p (depth s) (depth h.state) m.1 ∙ q) h.accepted)
+
+-- behind some of the Dedents that are accepted, a line `pass` is
+pub falls : (j k n : ℕ) (s : State) → stage s ≡ at_beginning → depth s ≡ j + k → Accepted s (dedents 0 j ++ item 0 keyword_pass 0 ∷ item 0 newline 0 ∷ newlines n (dedents 0 k))
+falls zero k n s g d =
+    let e : depth s ≡ k = omega (arith, d) in
+    subst (λ m. Accepted s (item 0 keyword_pass 0 ∷ item 0 newline 0 ∷ newlines n (dedents 0 m))) e (passed s g n)
+falls (suc j) k n s g d =
+    let x = item 0 dedent 0 in
+    let e : depth s ≡ suc (j + k) = omega (arith, d) in
+    let h = accepted_steps s x (dedents 0 (j + k)) (subst (λ m. Accepted s (dedents 0 m)) e (lined s g 0)) in
+    let m = step_moves s h.state x h.steps in
+    let f : depth h.state ≡ j + k = let a : depth s ≡ suc (depth h.state) = m.1 in omega (arith, a, e) in
+    accepted_step s h.state x (dedents 0 j ++ item 0 keyword_pass 0 ∷ item 0 newline 0 ∷ newlines n (dedents 0 k)) h.steps (falls j k n h.state m.2 f)
 
 -- their lexemes
 pub spelled_bare : (xs : List Lexeme) (ts : List Item) → bare (spelled 0 xs ts) ≡ xs ++ bare ts

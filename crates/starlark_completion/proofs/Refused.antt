@@ -6,7 +6,7 @@ use Rattle.starlark_lexer.specs.declared.dialect.Dialect.{Dialect}
 use Rattle.starlark_grammar.specs.Language.{Fault, IsRefusal, IsRefused, IsViable, the_lexer, a_token, the_end, a_rule, last_end, uncommented, without_comments}
 use Rattle.starlark_completion.specs.GoesOn.{CanGoOn, GoesOnBefore, IsRefusedText}
 
-module _ (law : (dialect : Dialect) (text : List ℕ) (l : Lexed) (w rest : List Item) → Lex start text l → w ++ rest ≡ without_comments l.items → IsViable dialect w → CanGoOn (take (last_end 0 w) text)) where
+module _ (law : (dialect : Dialect) (text : List ℕ) (l : Lexed) (w rest : List Item) → Lex start text l → w ++ rest ≡ without_comments l.items → IsViable dialect w → CanGoOn (take (last_end 0 w) text) w) where
   before : (dialect : Dialect) (text : List ℕ) (l : Lexed) (f : Fault) → Lex start text l → (r : IsRefusal dialect (uncommented l) f) → GoesOnBefore text r
   before dialect text l f lex (the_lexer e w) = tt
   before dialect text l f lex (a_token {w} {more} {x} e s) = law dialect text l w (x ∷ more) lex e s.viable

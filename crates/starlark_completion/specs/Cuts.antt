@@ -4,7 +4,7 @@ use Rattle.starlark_lexer.specs.Items.{newline, indent, dedent, fstring_text, fs
 use Rattle.starlark_lexer.specs.Lex.{Lex, start}
 use Rattle.starlark_lexer.specs.Joining.{open_behind}
 use Rattle.starlark_lexer.specs.Order.{InOrder}
-use Rattle.starlark_cutting.specs.Cutting.{EvenWith, inner, IsClosedBefore, IsClosedOff, IsContinued, IsCutAt, IsDeepened, IsEnded, IsFilled, IsIndented}
+use Rattle.starlark_cutting.specs.Cutting.{EvenWith, inner, IsClosedOff, IsContinued, IsCutAt, IsDeepened, IsEnded, IsFilled, IsFilledBehind, IsIndented}
 use Rattle.starlark_cutting.specs.Opened.{Nest, outside, in_field, in_text, Way, Put, put_lexemes, is_text, IsFinishedBy}
 
 pub record Cuts : Type 0 where
@@ -19,12 +19,12 @@ pub record Cuts : Type 0 where
       → Way (outside 0) (map (λ x. x.lexeme) (before ++ z ∷ [])) (in_text m) → Way (in_field 0 m) (put_lexemes xs) (outside 0) → IsFinishedBy u (before ++ z ∷ []) (fstring_expr_start ∷ put_lexemes xs)
   -- cut_off_lines
   pub closed_line : (u v : List ℕ) (before : List Item) (z : Item) (behind : List Item) → IsCutAt u v before z behind → z.lexeme ≡ newline → z.end ≡ z.begin + 1 → IsClosedOff u (before ++ z ∷ [])
-  pub closed_dedent : (u v : List ℕ) (before : List Item) (z : Item) (behind : List Item) → IsCutAt u v before z behind → z.lexeme ≡ dedent → 0 < length v → IsClosedBefore u before
   -- cut_off_indents
   pub deepened : (u v : List ℕ) (before : List Item) (z : Item) (behind : List Item) → IsCutAt u v before z behind → z.lexeme ≡ newline → z.end ≡ z.begin + 1 → IsDeepened u (before ++ z ∷ [])
   pub indented : (u v : List ℕ) (before : List Item) (z : Item) (behind : List Item) → IsCutAt u v before z behind → z.lexeme ≡ indent → IsIndented u (32 ∷ []) before
   -- cut_off_blocks
   pub filled : (u v : List ℕ) (before : List Item) (z : Item) (behind : List Item) → IsCutAt u v before z behind → z.lexeme ≡ newline → z.end ≡ z.begin + 1 → IsFilled u (before ++ z ∷ [])
+  pub filled_dedent : (u v : List ℕ) (before : List Item) (z : Item) (behind : List Item) → IsCutAt u v before z behind → z.lexeme ≡ dedent → 0 < length v → IsFilledBehind u (before ++ z ∷ [])
   -- cut_off_whole
   pub ended_line : (u v : List ℕ) (before : List Item) (z : Item) (behind : List Item) (c : IsCutAt u v before z behind) → z.lexeme ≡ newline → z.end ≡ z.begin → IsEnded u v before z behind c.fault
   pub ended_dedent : (u v : List ℕ) (before : List Item) (z : Item) (behind : List Item) (c : IsCutAt u v before z behind) → z.lexeme ≡ dedent → v ≡ [] → IsEnded u v before z behind c.fault

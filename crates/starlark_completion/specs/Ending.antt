@@ -68,3 +68,9 @@ pub record IsAtLine (w : List Item) : Type 0 where
   pub blocks : count_by indent_item w ≡ depth + count_by dedent_item w
   pub even : IsEven w
   pub goes : (n : ℕ) → Goes (bare w ++ (copies n newline ++ copies depth dedent))
+
+-- Behind a Dedent: tokens that go on by so many Dedents more, a line `pass` there, line ends, and as many Dedents as blocks are left open.
+pub record IsBehindBlock (w : List Item) : Type 0 where
+  pub depth : ℕ
+  pub blocks : count_by indent_item w ≡ depth + count_by dedent_item w
+  pub goes : (j k n : ℕ) → depth ≡ j + k → Goes (bare w ++ (copies j dedent ++ (keyword_pass ∷ newline ∷ (copies n newline ++ copies k dedent))))

@@ -6,7 +6,7 @@ ghost use Rattle.starlark_lexer.specs.Lex.{Lex, start};
 ghost use Rattle.starlark_lexer.specs.declared.dialect.Dialect.{Dialect};
 ghost use Rattle.starlark_grammar.specs.Language.{Fault, IsRefused, IsViable, last_end, without_comments};
 ghost use Rattle.starlark_completion.specs.Closing.{CanClose};
-ghost use Rattle.starlark_completion.specs.Ending.{CanEnd, IsAtLine, another, goes_on_line, last_of, no_token};
+ghost use Rattle.starlark_completion.specs.Ending.{CanEnd, IsAtLine, IsBehindBlock, another, goes_on_line, last_of, no_token};
 ghost use Rattle.starlark_completion.specs.GoesOn.{CanGoOn, IsRefusedText};
 
 use starlark_cutting::laws::{
@@ -51,10 +51,21 @@ pub fn before_dedent()
     stuck_at_dead();
 }
 
+/// Behind a Dedent a line begins: tokens that end with one go on to a program by any number of
+/// Dedents more, as far as blocks are open, and a line `pass` behind them.
+pub fn behind_dedent()
+    ensures { (dialect : Dialect) (w : List Item) (z : Item) → z.lexeme ≡ dedent → IsViable dialect (w ++ z ∷ []) → IsBehindBlock (w ++ z ∷ []) }
+{
+    sound();
+    complete();
+    goes_on();
+    stuck_at_dead();
+}
+
 /// Tokens that are read from a text and go on to a program do so in that text: the text up to the
-/// end of the last of them, comments behind it left out, goes on.
+/// end of the last of them, comments behind it left out, goes on to a program that begins with them.
 pub fn can_go_on()
-    ensures { (dialect : Dialect) (text : List ℕ) (l : Lexed) (w rest : List Item) → Lex start text l → w ++ rest ≡ without_comments l.items → IsViable dialect w → CanGoOn (take (last_end 0 w) text) }
+    ensures { (dialect : Dialect) (text : List ℕ) (l : Lexed) (w rest : List Item) → Lex start text l → w ++ rest ≡ without_comments l.items → IsViable dialect w → CanGoOn (take (last_end 0 w) text) w }
 {
     sound();
     complete();
@@ -72,7 +83,7 @@ pub fn can_go_on()
 }
 
 /// Where a text is refused for syntax, the text before the token, or the end, that is refused goes
-/// on to a program.
+/// on to a program that begins with all tokens before it.
 pub fn refused_goes_on()
     ensures { (dialect : Dialect) (text : List ℕ) (f : Fault) → IsRefused dialect text f → IsRefusedText dialect text f }
 {

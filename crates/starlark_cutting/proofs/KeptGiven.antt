@@ -24,10 +24,17 @@ layout indent = true
 layout dedent = true
 layout _ = false
 
+-- a line closes widths
+pub record Falls (p : Past) (rest : List ℕ) (xs : List Item) : Type 0 where
+  pub closed : List ℕ
+  pub is : xs ≡ dedents p.place (length closed)
+  pub stays : IsOpen p.lines (width rest)
+  pub shuts : Closes p.lines (width rest) closed
+
 -- an item of a step, with those of the step before it
 pub data Given (p : Past) (rest : List ℕ) (xs : List Item) (q : Past) (first : List Item) (z : Item) : Type 0 where
   line : first ≡ [] → xs ≡ z ∷ [] → z.lexeme ≡ newline → z.end ≡ q.place → q.fresh ≡ true → z.end ≡ z.begin + 1 → Given p rest xs q first z
-  shallower : (n : ℕ) → first ≡ dedents p.place n → z ≡ item p.place dedent p.place → IsMeasured p rest → ((ws : List ℕ) → IsStack p.lines ws → n < length ws) → Given p rest xs q first z
+  shallower : (n : ℕ) → first ≡ dedents p.place n → z ≡ item p.place dedent p.place → IsMeasured p rest → ((ws : List ℕ) → IsStack p.lines ws → n < length ws) → Falls p rest xs → Given p rest xs q first z
   deeper : first ≡ [] → z ≡ item p.place indent (p.place + leading rest) → IsMeasured p rest → has_tab (blanks rest) ≡ false → IsDeeper p.lines (width rest) → Given p rest xs q first z
   other : layout z.lexeme ≡ false → Given p rest xs q first z
 
@@ -97,7 +104,7 @@ given (rules.remark_line p rest more f e) = another p rest _ _ refl
 given (rules.last_line p rest closed f e c) = end_over (p.place + length rest) (p.place + length rest) (length closed) refl
 given (rules.tabbed p rest m t) = none_over (p.place + length rest)
 given (rules.deepens p rest m t d) = λ first z ws e. let s = single _ z first ws e in deeper s.0 s.1.0 m t d
-given (rules.fits p rest closed m t o c) = λ first z ws e. let s = of_dedents p.place (length closed) first z ws e in shallower (length first) s.0 s.1.0 m (λ ls st. fewer p.lines ls (width rest) closed (length first) st o c s.1.1)
+given (rules.fits p rest closed m t o c) = λ first z ws e. let s = of_dedents p.place (length closed) first z ws e in shallower (length first) s.0 s.1.0 m (λ ls st. fewer p.lines ls (width rest) closed (length first) st o c s.1.1) (record { closed = closed; is = refl; stays = o; shuts = c })
 given (rules.misfits p rest m t d o) = none_over (p.place + length rest)
 given (rules.passes p b rest f c d) = none p (b ∷ rest) _
 given (rules.escapes p rest f c d) = none p rest _

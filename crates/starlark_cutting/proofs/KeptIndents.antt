@@ -101,7 +101,7 @@ record Deeper (p : Past) (rest : List ℕ) (first : List Item) (z : Item) : Type
 
 indent_given : {p : Past} {rest : List ℕ} {xs : List Item} {q : Past} {v : List ℕ} (first : List Item) (z : Item) → Step p rest (on xs q v) → Given p rest xs q first z → z.lexeme ≡ indent → Deeper p rest first z
 indent_given first z step (line a b c d e w) n = absurd (false≢true (ap is_indent (sym c) ∙ ap is_indent n))
-indent_given first z step (shallower k a b m c) n = absurd (false≢true (ap (λ x. is_indent x.lexeme) (sym b) ∙ ap is_indent n))
+indent_given first z step (shallower k a b m c f) n = absurd (false≢true (ap (λ x. is_indent x.lexeme) (sym b) ∙ ap is_indent n))
 indent_given first z step (deeper a b m t d) n = record { first_is = a; is = b; measured = m; tab = t; deep = d }
 indent_given first z step (other a) n = absurd (false≢true (sym a ∙ ap layout n))
 

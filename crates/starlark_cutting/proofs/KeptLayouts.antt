@@ -10,7 +10,7 @@ use Rattle.starlark_cutting.specs.Cutting.{IsCutAt, IsClosedOff, IsClosedBefore}
 use Rattle.starlark_lexer.proofs.Widths.{IsStack}
 use Rattle.starlark_cutting.proofs.KeptReach.{is_line, one_more, find, far_reach}
 use Rattle.starlark_cutting.proofs.KeptFresh.{Begun, begun, begun_lines, ended_with}
-use Rattle.starlark_cutting.proofs.KeptGiven.{Given, line, shallower, deeper, other, layout, given}
+use Rattle.starlark_cutting.proofs.KeptGiven.{Falls, Given, line, shallower, deeper, other, layout, given}
 
 not_both : (x : Lexeme) → x ≡ newline → layout x ≡ false → ⊥
 not_both x e f = false≢true (sym f ∙ ap layout e)
@@ -23,7 +23,7 @@ pub record Ended (u : List ℕ) (xs : List Item) : Type 0 where
 
 pub line_given : {p : Past} {rest : List ℕ} {xs : List Item} {q : Past} {v : List ℕ} (first : List Item) (z : Item) → Step p rest (on xs q v) → Given p rest xs q first z → z.lexeme ≡ newline → (first ≡ []) × ((xs ≡ z ∷ []) × ((z.end ≡ q.place) × ((q.fresh ≡ true) × (z.end ≡ z.begin + 1))))
 line_given first z step (line a b c d e w) n = (a, (b, (d, (e, w))))
-line_given first z step (shallower k a b m c) n = absurd (false≢true (ap (λ x. is_newline x.lexeme) (sym b) ∙ ap is_newline n))
+line_given first z step (shallower k a b m c f) n = absurd (false≢true (ap (λ x. is_newline x.lexeme) (sym b) ∙ ap is_newline n))
 line_given first z step (deeper a b m t d) n = absurd (false≢true (ap (λ x. is_newline x.lexeme) (sym b) ∙ ap is_newline n))
 line_given first z step (other a) n = absurd (not_both z.lexeme n a)
 
@@ -52,16 +52,17 @@ measured_some p [] m = absurd (none (leading []) m.first m.more m.stands)
     none (suc k) b bs e = omega (arith, ap length e)
 measured_some p (b ∷ rest) m = omega arith
 
-pub record Shallower (p : Past) (rest : List ℕ) (first : List Item) (z : Item) : Type 0 where
+pub record Shallower (p : Past) (rest : List ℕ) (xs first : List Item) (z : Item) : Type 0 where
   pub some : ℕ
   pub first_is : first ≡ dedents p.place some
   pub is : z ≡ item p.place dedent p.place
   pub measured : IsMeasured p rest
   pub fewer : (ws : List ℕ) → IsStack p.lines ws → some < length ws
+  pub falls : Falls p rest xs
 
-pub dedent_given : {p : Past} {rest : List ℕ} {xs : List Item} {q : Past} {v : List ℕ} (first : List Item) (z : Item) → Step p rest (on xs q v) → Given p rest xs q first z → z.lexeme ≡ dedent → Shallower p rest first z
+pub dedent_given : {p : Past} {rest : List ℕ} {xs : List Item} {q : Past} {v : List ℕ} (first : List Item) (z : Item) → Step p rest (on xs q v) → Given p rest xs q first z → z.lexeme ≡ dedent → Shallower p rest xs first z
 dedent_given first z step (line a b c d e w) n = absurd (false≢true (ap is_dedent (sym c) ∙ ap is_dedent n))
-dedent_given first z step (shallower k a b m c) n = record { some = k; first_is = a; is = b; measured = m; fewer = c }
+dedent_given first z step (shallower k a b m c f) n = record { some = k; first_is = a; is = b; measured = m; fewer = c; falls = f }
 dedent_given first z step (deeper a b m t d) n = absurd (false≢true (ap (λ x. is_dedent x.lexeme) (sym b) ∙ ap is_dedent n))
 dedent_given first z step (other a) n = absurd (false≢true (sym a ∙ ap layout n))
 

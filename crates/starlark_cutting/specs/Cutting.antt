@@ -88,6 +88,11 @@ pub record IsFilled (text : List ℕ) (front : List Item) : Type 0 where
   pub layout : count_by indent_item front ≡ count_by dedent_item front + count
   pub lex : Lex start (text ++ (blanks_of spaces ++ 112 ∷ 97 ∷ 115 ∷ 115 ∷ 10 ∷ [])) (with_items front (filled_line place count))
 
+-- The same behind some more Dedents.
+pub record IsFilledBehind (text : List ℕ) (front : List Item) : Type 0 where
+  pub more : ℕ
+  pub filled : IsFilled text (front ++ dedents (length text) more)
+
 -- Nothing stands behind z but the Dedents of the text's end, of which there are as many as widths are open behind z, and there is no fault.
 pub record IsEnded (u v : List ℕ) (before : List Item) (z : Item) (behind : List Item) (fault : Option Stop) : Type 0 where
   pub whole : v ≡ []

@@ -4,7 +4,7 @@ ghost use Rattle.std.specs.Prelude.{◌++◌, ◌+◌, ◌<◌, ◌∷◌, ◌�
 ghost use Rattle.starlark_lexer.specs.Items.{Item, dedent, fstring_expr_start, fstring_text, indent, item, newline, nothing, with_items};
 ghost use Rattle.starlark_lexer.specs.Joining.{open_behind};
 ghost use Rattle.starlark_lexer.specs.Lex.{Lex, start};
-ghost use Rattle.starlark_cutting.specs.Cutting.{EvenWith, IsClosedBefore, IsClosedOff, IsContinued, IsCutAt, IsDeepened, IsEnded, IsFilled, IsIndented, inner};
+ghost use Rattle.starlark_cutting.specs.Cutting.{EvenWith, IsClosedBefore, IsClosedOff, IsContinued, IsCutAt, IsDeepened, IsEnded, IsFilled, IsFilledBehind, IsIndented, inner};
 ghost use Rattle.starlark_cutting.specs.Opened.{IsFinishedBy, Nest, Put, Way, in_field, in_text, is_text, outside, put_lexemes};
 
 /// The empty text is cut into a line end.
@@ -28,9 +28,12 @@ pub fn cut_off_indents()
 {}
 
 /// A text that is cut off behind a line end is cut into the same up to there with a line of the
-/// innermost open width behind it, which closes none.
+/// innermost open width behind it, which closes none. One that is cut off behind a `Dedent` that is
+/// not at the text's end is cut into the same up to there, and the Dedents that stood behind that
+/// one, with a line of the width behind it that they left.
 pub fn cut_off_blocks()
     ensures line { (u v : List ℕ) (before : List Item) (z : Item) (behind : List Item) → IsCutAt u v before z behind → z.lexeme ≡ newline → z.end ≡ z.begin + 1 → IsFilled u (before ++ z ∷ []) }
+    ensures dedent { (u v : List ℕ) (before : List Item) (z : Item) (behind : List Item) → IsCutAt u v before z behind → z.lexeme ≡ dedent → 0 < length v → IsFilledBehind u (before ++ z ∷ []) }
 {}
 
 /// Behind a line end of no width, and behind a `Dedent` that stands at the very end of the text,

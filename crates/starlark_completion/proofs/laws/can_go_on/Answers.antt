@@ -8,10 +8,10 @@ returns c = can_go_on (record { sound = c.sound.ensures; complete = c.complete.e
   line = c.cut_off_fields.ensures.line;
   text = c.cut_off_fields.ensures.text;
   closed_line = c.cut_off_lines.ensures.line;
-  closed_dedent = c.cut_off_lines.ensures.dedent;
   deepened = c.cut_off_indents.ensures.line;
   indented = c.cut_off_indents.ensures.indent;
   filled = c.cut_off_blocks.ensures.line;
+  filled_dedent = c.cut_off_blocks.ensures.dedent;
   ended_line = c.cut_off_whole.ensures.newline;
   ended_dedent = c.cut_off_whole.ensures.dedent;
   width = c.cut_off_kinds.ensures.newline_width;
