@@ -1,5 +1,5 @@
 -- What a whole text is told.
-use Rattle.std.proofs.Common.{◌≡◌, ◌≢◌, ℕ, List, [], ◌∷◌, Option, Some, None, Result, Ok, Err, IfOk, refl, ap, sym, subst, ◌∙◌}
+use Rattle.std.proofs.Common.{◌≡◌, ◌≢◌, ℕ, true, false, List, [], ◌∷◌, Option, Some, None, Result, Ok, Err, IfOk, refl, ap, sym, subst, ◌∙◌}
 use Rattle.starlark_place.specs.declared.pos.Spanned.{Spanned}
 use Rattle.starlark_lexer.specs.Items.{Item, Stop, Lexed}
 use Rattle.starlark_lexer.specs.Lex.{Lex, start}
@@ -17,7 +17,7 @@ use Rattle.starlark_grammar.specs.Language.{Fault, IsProgram, IsRefusal, IsRefus
 use Rattle.starlark_read.specs.Asides.{Aside}
 use Rattle.starlark_read.specs.Reads.{Left, left_of, Answers, Goes, Sticks}
 use Rattle.starlark_read.specs.declared.refused.Refused.{Refused}
-use Rattle.starlark_read.specs.Refused.{fault_ahead, fault_at, fault_of}
+use Rattle.starlark_read.specs.Refused.{fault_ahead, fault_at, fault_of, is_last}
 use Rattle.starlark_grammar.proofs.Steps.{runs_end}
 use Rattle.starlark_grammar.proofs.Refusals.{told, told_of, Answered, a_program, a_refusal, answered}
 use Rattle.starlark_grammar.proofs.Decided.{program_judge}
@@ -100,6 +100,11 @@ given {A} {d} {l} {r} {g} q p e f h w = let z : r ≡ e = same_error h in let v 
   where
     same_error : ◌≡◌ {A = Result A Refused} (Err r) (Err e) → r ≡ e
     same_error h = cc
+
+-- no token is left where the last reason is found
+pub none_left : {r : Refused} (xs : List Item) (s : Option Stop) (e : ℕ) → fault_of r ≡ Some (fault_at xs s e) → is_last (fault_of r) ≡ true → xs ≡ []
+none_left (x ∷ xs) s e q h = absurd (let n : false ≡ true = sym (ap is_last q) ∙ h in (cc))
+none_left [] s e q h = refl
 
 -- of a text
 pub refused_text : {d : Dialect} {text : List ℕ} {l : Lexed} {f : Fault} → Lex start text l → IsRefusal d (uncommented l) f → IsRefused d text f

@@ -1,6 +1,6 @@
 //! A whole text.
 
-ghost use Rattle.std.specs.Prelude.{◌≡◌, ◌≢◌, ◌≤◌, ◌+◌, ◌*◌, ℕ, IfErr, IfOk, IsErr, List, false, None, Some, Err, [], suc, length};
+ghost use Rattle.std.specs.Prelude.{◌≡◌, ◌≢◌, ◌≤◌, ◌+◌, ◌*◌, ℕ, IfErr, IfOk, IsErr, List, true, false, None, Some, Err, [], suc, length};
 ghost use Rattle.starlark_lexer.specs.Items.{Lexed};
 ghost use Rattle.starlark_lexer.specs.Lex.{Lex, start};
 ghost use Rattle.starlark_read.specs.declared.refused.Refused.{Refused};
@@ -8,7 +8,7 @@ ghost use Rattle.starlark_read.specs.Asides.{Aside, counted};
 ghost use Rattle.starlark_grammar.specs.Comments.{comments_in, joined_in};
 ghost use Rattle.starlark_grammar.specs.Language.{Fault, IsProgram, IsRefusal, IsRefused, Language, last_end, uncommented};
 ghost use Rattle.starlark_read.specs.Reads.{left_of, SameEnd};
-ghost use Rattle.starlark_read.specs.Refused.{fault_of};
+ghost use Rattle.starlark_read.specs.Refused.{fault_of, is_last};
 
 use crate::block::block;
 use crate::error::Error;
@@ -43,6 +43,7 @@ pub fn read<B: Build>(
     ensures bounded { IfOk result (λ x. told.new.cost.reads ≤ 16 * lexer.entry.size + 16) }
     ensures some { IfErr result (λ e. fault_of e ≢ None → 1 ≤ told.new.cost.asks) }
     ensures most { IfErr result (λ e. fault_of e ≢ None → told.new.cost.asks ≤ counted (suc (length lexer.entry.left.items))) }
+    ensures last { IfErr result (λ e. is_last (fault_of e) ≡ true → told.new.cost.asks ≡ counted (suc (length lexer.entry.left.items))) }
     ensures spent { IfErr result (λ e. fault_of e ≢ None → told.new.cost.reads ≤ 16 * lexer.entry.size + 16) }
 {
     *told = Told::nothing(alloc);
@@ -68,6 +69,7 @@ fn program<B: Build>(tokens: &mut Tokens<'_>, dialect: &Dialect) -> Result<B::St
     ensures whole { (l : Lexed) (a : Aside) → tokens.old ≡ left_of 0 l a → IfOk result (λ x. (l.fault ≡ None) × IsProgram dialect.now l.items (B.says x)) }
     ensures refused { (l : Lexed) (a : Aside) → tokens.old ≡ left_of 0 l a → (e : Refused) (f : Fault) → result ≡ Err e → fault_of e ≡ Some f → IsRefusal dialect.now l f }
     ensures ended { IfOk result (λ x. (tokens.new.items ≡ []) × SameEnd tokens.old tokens.new) }
+    ensures last { IfErr result (λ e. is_last (fault_of e) ≡ true → tokens.new.items ≡ []) }
     ensures aside { IfErr result (λ e. fault_of e ≢ None → tokens.new.aside ≡ tokens.old.aside) }
 {
     let TopStatements { items, are_clean } = match statements::<B>(tokens, dialect) {

@@ -3,7 +3,7 @@ use Rattle.starlark_rulebook.specs.View.{maybe_finding}
 use Rattle.starlark_grammar.specs.Events.{end_finding}
 use Rattle.starlark_grammar.specs.Made.{sequence_of}
 use Rattle.starlark_grammar.specs.Nodes.{block_of}
-use Rattle.starlark_read.proofs.Answering.{broken_from, fault_is, fine_is, given, read_as, read_from, spoilt_is, stuck_from}
+use Rattle.starlark_read.proofs.Answering.{broken_from, fault_is, fine_is, given, none_left, read_as, read_from, spoilt_is, stuck_from}
 use Rattle.starlark_read.proofs.read.program.Goals as goal
 
 pub returns-in-Err-Unexpected-clause-refused : goal.returns-in-Err-Unexpected-clause-refused
@@ -50,3 +50,9 @@ returns-in-Some-clause-aside g c h = (c.statements.ensures.reads.comes c.in-Ok.s
 
 pub returns-in-Some-2-clause-aside : goal.returns-in-Some-2-clause-aside
 returns-in-Some-2-clause-aside g c h = (c.statements.ensures.reads.comes c.in-Ok.statements (search rules)).behind.aside
+
+pub returns-in-Err-Unexpected-clause-last : goal.returns-in-Err-Unexpected-clause-last
+returns-in-Err-Unexpected-clause-last g c h = none_left _ _ _ c.refusal.ensures h
+
+pub returns-in-Some-clause-last : goal.returns-in-Some-clause-last
+returns-in-Some-clause-last g c h = c.in-Ok.ensures.whole
