@@ -102,9 +102,9 @@ given {A} {d} {l} {r} {g} q p e f h w = let z : r ≡ e = same_error h in let v 
     same_error h = cc
 
 -- no token is left where the last reason is found
-pub none_left : {r : Refused} (xs : List Item) (s : Option Stop) (e : ℕ) → fault_of r ≡ Some (fault_at xs s e) → is_last (fault_of r) ≡ true → xs ≡ []
-none_left (x ∷ xs) s e q h = absurd (let n : false ≡ true = sym (ap is_last q) ∙ h in (cc))
-none_left [] s e q h = refl
+pub none_left : (r : Refused) (xs : List Item) (s : Option Stop) (e : ℕ) → fault_of r ≡ Some (fault_at xs s e) → is_last (fault_of r) ≡ true → xs ≡ []
+none_left r (x ∷ xs) s e q h = absurd (let n : false ≡ true = sym (ap is_last q) ∙ h in (cc))
+none_left r [] s e q h = refl
 
 -- of a text
 pub refused_text : {d : Dialect} {text : List ℕ} {l : Lexed} {f : Fault} → Lex start text l → IsRefusal d (uncommented l) f → IsRefused d text f

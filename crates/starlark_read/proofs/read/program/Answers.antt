@@ -52,7 +52,7 @@ pub returns-in-Some-2-clause-aside : goal.returns-in-Some-2-clause-aside
 returns-in-Some-2-clause-aside g c h = (c.statements.ensures.reads.comes c.in-Ok.statements (search rules)).behind.aside
 
 pub returns-in-Err-Unexpected-clause-last : goal.returns-in-Err-Unexpected-clause-last
-returns-in-Err-Unexpected-clause-last g c h = none_left _ _ _ c.refusal.ensures h
+returns-in-Err-Unexpected-clause-last g c h = none_left c.refusal.result _ _ _ c.refusal.ensures h
 
 pub returns-in-Some-clause-last : goal.returns-in-Some-clause-last
 returns-in-Some-clause-last g c h = c.in-Ok.ensures.whole
