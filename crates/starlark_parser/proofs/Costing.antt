@@ -1,6 +1,7 @@
 -- What a reading of a text costs.
-use Rattle.std.proofs.Common.{◌≡◌, ◌≢◌, ◌≤◌, ℕ, suc, ◌+◌, ◌*◌, List, Option, Some, None, Err, length, subst, sym, arith, ◌∙◌, min}
+use Rattle.std.proofs.Common.{◌≡◌, ◌≢◌, ◌≤◌, ℕ, suc, ◌+◌, ◌*◌, true, List, Option, Some, None, Err, length, refl, ap, subst, sym, arith, ◌∙◌, min}
 use Rattle.std.proofs.Math.Nat.{min-eq_left, min-le_right}
+use Rattle.starlark_place.specs.Diagnostic.{inner_of}
 use Rattle.starlark_place.specs.Place.{File}
 use Rattle.starlark_lexer.specs.Items.{Lexed}
 use Rattle.starlark_lexer.specs.Lex.{Lex, start}
@@ -8,9 +9,10 @@ use Rattle.starlark_read.specs.declared.cost.Cost.{Cost}
 use Rattle.starlark_parser.specs.declared.fault.EvalException.{EvalException}
 use Rattle.starlark_parser.specs.declared.fault.EvalException.TheVariants as exception
 use Rattle.starlark_read.specs.Asides.{counted}
-use Rattle.starlark_parser.specs.Costs.{Costs, IsBounded, IsPartly, IsWhole}
-use Rattle.starlark_parser.specs.Faults.{Tells}
-use Rattle.starlark_grammar.specs.Language.{Fault, last_end, uncommented}
+use Rattle.starlark_read.specs.Refused as refused
+use Rattle.starlark_parser.specs.Costs.{Costs, IsBounded, IsPartly, IsWhole, is_last}
+use Rattle.starlark_parser.specs.Faults.{Reason, Tells, reason, reason_of}
+use Rattle.starlark_grammar.specs.Language.{Fault, by_lexer, by_rule, unexpected, unexpected_end, last_end, uncommented}
 use Rattle.starlark_grammar.proofs.Ended.{ended}
 
 -- a text has too few lexemes for the count to stop
@@ -46,19 +48,27 @@ whole_cost {text} {source} {l} {c} {d} cap q x f h few a r z b =
     let whole : IsWhole text c = record { lexed = l; lexes = w; asks = a ∙ k; few = omega (arith, a, k, few text l w); reads = let e = ended w f in omega (arith, e, r); bounded = within q z b } in
     subst (IsWhole text) (capped cap whole.few whole.bounded) whole
 
-part_cost : {text : List ℕ} {l : Lexed} {c : Cost} → c.reads ≤ 16 * length text + 16 → Lex start text l → length text ≤ 4294967295 → length l.items ≤ 2 * length text + 1 → 1 ≤ c.asks → c.asks ≤ counted (suc (length l.items)) → IsPartly text c
-part_cost {text} {l} {c} b w h few s m =
-    let k = fits (length text) (length l.items) h few in
-    record { lexed = l; lexes = w; some = s; most = omega (arith, k, m); few = omega (arith, k, m, few); bounded = b }
+-- where a reason is found, with its place and without it
+same_last : (f : Fault) → refused.is_last (Some f) ≡ is_last (reason f)
+same_last (by_lexer e s) = refl
+same_last (unexpected s) = refl
+same_last (unexpected_end n) = refl
+same_last (by_rule r s) = refl
 
-pub refused_cost : {text source : List ℕ} {l : Lexed} {n : ℕ} (c d : Cost) → IsCapped (length text) c d → (o : Option Fault) (file : File) (e : EvalException) → Tells o file e → source ≡ text → Lex start source l → length text ≤ 4294967295 → ((t : List ℕ) (m : Lexed) → Lex start t m → length m.items ≤ 2 * length t + 1) → (o ≢ None → 1 ≤ c.asks) → (o ≢ None → c.asks ≤ counted (suc (length l.items))) → n ≡ length source → (o ≢ None → c.reads ≤ 16 * n + 16) → Costs text (Err e) d
-refused_cost {text} {source} {l} c d cap (Some f) file (exception.Fault w) t q x h few s m z b =
+part_cost : {text : List ℕ} {l : Lexed} {c : Cost} (r : Reason) → c.reads ≤ 16 * length text + 16 → Lex start text l → length text ≤ 4294967295 → length l.items ≤ 2 * length text + 1 → 1 ≤ c.asks → c.asks ≤ counted (suc (length l.items)) → (is_last r ≡ true → c.asks ≡ counted (suc (length l.items))) → IsPartly text r c
+part_cost {text} {l} {c} r b w h few s m a =
+    let k = fits (length text) (length l.items) h few in
+    record { lexed = l; lexes = w; some = s; most = omega (arith, k, m); last = λ e. a e ∙ k; few = omega (arith, k, m, few); bounded = b }
+
+pub refused_cost : {text source : List ℕ} {l : Lexed} {n : ℕ} (c d : Cost) → IsCapped (length text) c d → (o : Option Fault) (file : File) (e : EvalException) → Tells o file e → source ≡ text → Lex start source l → length text ≤ 4294967295 → ((t : List ℕ) (m : Lexed) → Lex start t m → length m.items ≤ 2 * length t + 1) → (o ≢ None → 1 ≤ c.asks) → (o ≢ None → c.asks ≤ counted (suc (length l.items))) → n ≡ length source → (o ≢ None → c.reads ≤ 16 * n + 16) → (refused.is_last o ≡ true → c.asks ≡ counted (suc (length l.items))) → Costs text (Err e) d
+refused_cost {text} {source} {l} c d cap (Some f) file (exception.Fault w) t q x h few s m z b a =
     let y : Lex start text l = subst (λ t. Lex start t l) q x in
     let n : Some f ≢ None = λ v. absurd (cc) in
-    let part = part_cost (within q z (b n)) y h (few text l y) (s n) (m n) in
-    subst (IsPartly text) (capped cap part.few part.bounded) part
-refused_cost c d cap None file (exception.Fault w) t q x h few s m z b = absurd t
-refused_cost c d cap (Some f) file exception.TooLong t q x h few s m z b = absurd t
-refused_cost c d cap None file exception.TooLong t q x h few s m z b = absurd t
-refused_cost {text} c d cap (Some f) file exception.Memory t q x h few s m z b = bounded_at cap
-refused_cost {text} c d cap None file exception.Memory t q x h few s m z b = bounded_at cap
+    let r = reason_of (inner_of w) in
+    let part = part_cost r (within q z (b n)) y h (few text l y) (s n) (m n) (λ e. a (same_last f ∙ sym (ap is_last t.why) ∙ e)) in
+    subst (IsPartly text r) (capped cap part.few part.bounded) part
+refused_cost c d cap None file (exception.Fault w) t q x h few s m z b a = absurd t
+refused_cost c d cap (Some f) file exception.TooLong t q x h few s m z b a = absurd t
+refused_cost c d cap None file exception.TooLong t q x h few s m z b a = absurd t
+refused_cost {text} c d cap (Some f) file exception.Memory t q x h few s m z b a = bounded_at cap
+refused_cost {text} c d cap None file exception.Memory t q x h few s m z b a = bounded_at cap

@@ -1,11 +1,13 @@
 -- What the reading of a text costs.
-use Rattle.std.specs.Prelude.{◌≡◌, ◌≤◌, ◌+◌, ◌*◌, ℕ, suc, List, length, Result, Ok, Err}
+use Rattle.std.specs.Prelude.{◌≡◌, ◌≤◌, ◌+◌, ◌*◌, ℕ, suc, Bool, true, false, List, length, Result, Ok, Err}
+use Rattle.starlark_place.specs.Diagnostic.{inner_of}
 use Rattle.starlark_lexer.specs.Items.{Lexed}
 use Rattle.starlark_lexer.specs.Lex.{Lex, start}
 use Rattle.starlark_read.specs.declared.cost.Cost.{Cost}
 use Rattle.starlark_parser.specs.declared.fault.EvalException.{EvalException}
 use Rattle.starlark_parser.specs.declared.fault.EvalException.TheVariants as exception
 use Rattle.starlark_parser.specs.declared.module.AstModule.{AstModule}
+use Rattle.starlark_parser.specs.Faults.{Reason, of_lexer, of_end, reason_of}
 
 -- The text was read to its end: one ask for each lexeme and one for the end, and each byte was looked at, 16 times at most and 16 times more.
 pub record IsWhole (text : List ℕ) (c : Cost) : Type 0 where
@@ -16,12 +18,19 @@ pub record IsWhole (text : List ℕ) (c : Cost) : Type 0 where
   pub reads : length text ≤ c.reads
   pub bounded : c.reads ≤ 16 * length text + 16
 
--- It was read until it was refused: nothing is asked for behind the fault or the end.
-pub record IsPartly (text : List ℕ) (c : Cost) : Type 0 where
+-- the reason is found behind all lexemes: the lexer's fault, or the end
+abbrev pub is_last : Reason → Bool
+is_last (of_lexer e) = true
+is_last of_end = true
+is_last _ = false
+
+-- It was read until it was refused for that reason: nothing is asked for behind the fault or the end, and for these there was an ask for each lexeme and one more.
+pub record IsPartly (text : List ℕ) (r : Reason) (c : Cost) : Type 0 where
   pub lexed : Lexed
   pub lexes : Lex start text lexed
   pub some : 1 ≤ c.asks
   pub most : c.asks ≤ suc (length lexed.items)
+  pub last : is_last r ≡ true → c.asks ≡ suc (length lexed.items)
   pub few : c.asks ≤ 2 * length text + 2
   pub bounded : c.reads ≤ 16 * length text + 16
 
@@ -33,6 +42,6 @@ pub record IsBounded (text : List ℕ) (c : Cost) : Type 0 where
 -- the cost of a reading with that answer
 abbrev pub Costs : List ℕ → Result AstModule EvalException → Cost → Type 0
 Costs text (Ok m) c = IsWhole text c
-Costs text (Err (exception.Fault w)) c = IsPartly text c
+Costs text (Err (exception.Fault w)) c = IsPartly text (reason_of (inner_of w)) c
 Costs text (Err exception.TooLong) c = c ≡ record { reads = 0; asks = 0 }
 Costs text (Err exception.Memory) c = IsBounded text c

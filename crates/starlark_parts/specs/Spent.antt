@@ -1,6 +1,7 @@
 -- What the reading of an edit took.
 use Rattle.std.specs.Prelude.{◌≡◌, ℕ, List, Result, Ok, Err}
 use Rattle.starlark_parser.specs.Costs.{IsBounded, IsPartly, IsWhole}
+use Rattle.starlark_parser.specs.Faults.{reason_of}
 use Rattle.starlark_read.specs.declared.cost.Cost.{Cost}
 use Rattle.starlark_parts.specs.Kept.{Edit, inserts, replaces, removes, moves}
 use Rattle.starlark_parts.specs.declared.fault.PartFault.{PartFault}
@@ -14,7 +15,7 @@ nothing_read = record { reads = 0; asks = 0 }
 abbrev pub SpentOn : {T : Type 0} → List ℕ → Result T PartFault → Cost → Type 0
 SpentOn text (Ok x) c = IsWhole text c
 SpentOn text (Err faults.Open) c = IsWhole text c
-SpentOn text (Err (faults.Parse error place)) c = IsPartly text c
+SpentOn text (Err (faults.Parse error place)) c = IsPartly text (reason_of error) c
 SpentOn text (Err faults.Memory) c = IsBounded text c
 SpentOn text (Err faults.Index) c = c ≡ nothing_read
 SpentOn text (Err faults.Utf8) c = c ≡ nothing_read
