@@ -1,14 +1,12 @@
 use Rattle.std.proofs.Common.{◌≡◌, subst}
 use Rattle.std.specs.Prelude.{IfOk, Result, string_bytes}
-use Rattle.starlark_place.specs.Diagnostic.{inner_of}
-use Rattle.starlark_parser.specs.Costs.{Costs, IsPartly, IsWhole}
+use Rattle.starlark_parser.specs.Costs.{Costs, IsWhole}
 use Rattle.starlark_grammar.specs.Language.{Language}
-use Rattle.starlark_parser.specs.Faults.{reason_of}
 use Rattle.starlark_parser.specs.Modules.{file_of, tree_of}
 use Rattle.starlark_parser.specs.declared.fault.EvalException.{EvalException}
 use Rattle.starlark_parser.specs.declared.module.AstModule.{AstModule}
 use Rattle.starlark_parts.proofs.Held.{ok_part, source_of}
-use Rattle.starlark_parts.proofs.Spending.{part_spent, whole_spent}
+use Rattle.starlark_parts.proofs.Spending.{whole_spent}
 use Rattle.starlark_parts.proofs.part.read_text.Goals as goal
 
 pub returns-in-Ok-clause-ok : goal.returns-in-Ok-clause-ok
@@ -23,8 +21,3 @@ pub returns-in-Ok-clause-cost : goal.returns-in-Ok-clause-cost
 returns-in-Ok-clause-cost c =
     let whole : IsWhole (string_bytes c.in_ok-content.content) c.parse_counted-module.result.1 = subst (λ (r : Result AstModule EvalException). Costs (string_bytes c.in_ok-content.content) r c.parse_counted-module.result.1) c.in-Ok.is c.parse_counted-module.ensures.cost in
     whole_spent c.args.text.now (file_of c.in-Ok.module).source c.closed.result c.parse_counted-module.result.1 (subst (λ t. IsWhole t c.parse_counted-module.result.1) c.in_ok-content.ensures.ok whole) c.closed.ensures.err
-
-pub returns-in-Err-Fault-clause-cost : goal.returns-in-Err-Fault-clause-cost
-returns-in-Err-Fault-clause-cost c =
-    let partly : IsPartly (string_bytes c.in_ok-content.content) (reason_of (inner_of c.in-Err-Fault.fault)) c.parse_counted-module.result.1 = subst (λ (r : Result AstModule EvalException). Costs (string_bytes c.in_ok-content.content) r c.parse_counted-module.result.1) c.in-Err-Fault.is c.parse_counted-module.ensures.cost in
-    part_spent _ c.args.text.now c.in-Err-Fault.fault c.refusal.result c.parse_counted-module.result.1 (subst (λ t. IsPartly t (reason_of (inner_of c.in-Err-Fault.fault)) c.parse_counted-module.result.1) c.in_ok-content.ensures.ok partly) c.refusal.ensures
