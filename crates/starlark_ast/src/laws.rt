@@ -44,7 +44,7 @@ pub fn clones_are_copies()
     ensures commas { (x y : Comma) → ⟦<Comma as Clone>⟧.is_clone x y → y ≡ x }
 {}
 
-/// It is made whatever memory there is.
+/// The clone of what is copied is made whatever memory there is.
 pub fn clones_succeed()
     ensures operators { (x : BinOp) → ⟦<BinOp as Clone>⟧.is_infallible x }
     ensures assigning { (x : AssignOp) → ⟦<AssignOp as Clone>⟧.is_infallible x }

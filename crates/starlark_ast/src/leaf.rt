@@ -45,7 +45,8 @@ fn number(alloc: Global, x: &TokenInt) -> Result<TokenInt, AllocError>
 }
 
 impl AstLiteral {
-    /// The same literal, with texts of its own. One that holds no text, and no number of more than 32 bits, is never refused.
+    /// The same literal, with texts of its own. `...` and a number of 32 bits hold nothing on the heap, and their clones
+    /// are never refused.
     pub fn clone(&self, alloc: Global) -> Result<AstLiteral, AllocError>
         ensures same { IfOk result (λ x. (s : Extent) → literal_view x s ≡ literal_view self.now s) }
         ensures taken { HoldsNothing self.now → IsOk result }

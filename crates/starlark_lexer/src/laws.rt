@@ -114,7 +114,7 @@ pub fn clones_are_copies()
     ensures faults { (x y : LexemeError) → ⟦<LexemeError as Clone>⟧.is_clone x y → y ≡ x }
 {}
 
-/// It is made whatever memory there is.
+/// The clone of what is copied is made whatever memory there is.
 pub fn clones_succeed()
     ensures types { (x : DialectTypes) → ⟦<DialectTypes as Clone>⟧.is_infallible x }
     ensures dialects { (x : Dialect) → ⟦<Dialect as Clone>⟧.is_infallible x }

@@ -107,7 +107,7 @@ pub fn clones_are_copies()
     ensures ids { (p q : CodeMapId) → ⟦<CodeMapId as Clone>⟧.is_clone p q → q ≡ p }
 {}
 
-/// It is made whatever memory there is.
+/// The clone of what is copied is made whatever memory there is.
 pub fn clones_succeed()
     ensures places { (p : Pos) → ⟦<Pos as Clone>⟧.is_infallible p }
     ensures stretches { (s : Span) → ⟦<Span as Clone>⟧.is_infallible s }
