@@ -104,23 +104,31 @@ pub fn formats_compare<'a>()
 {}
 
 /// The clone of what is copied is itself.
-pub fn clones_are_copies()
+pub fn clones_are_copies<'a>()
     ensures types { (x y : DialectTypes) → ⟦<DialectTypes as Clone>⟧.is_clone x y → y ≡ x }
     ensures dialects { (x y : Dialect) → ⟦<Dialect as Clone>⟧.is_clone x y → y ≡ x }
     ensures quotes { (x y : FStringQuote) → ⟦<FStringQuote as Clone>⟧.is_clone x y → y ≡ x }
     ensures conversions { (x y : FStringConv) → ⟦<FStringConv as Clone>⟧.is_clone x y → y ≡ x }
     ensures captures { (x y : FormatConv) → ⟦<FormatConv as Clone>⟧.is_clone x y → y ≡ x }
     ensures braces { (x y : EscapeCurlyBrace) → ⟦<EscapeCurlyBrace as Clone>⟧.is_clone x y → y ≡ x }
+    ensures kinds { (x y : FormatErrorKind) → ⟦<FormatErrorKind as Clone>⟧.is_clone x y → y ≡ x }
+    ensures numbers { (x y : TokenIntError) → ⟦<TokenIntError as Clone>⟧.is_clone x y → y ≡ x }
     ensures faults { (x y : LexemeError) → ⟦<LexemeError as Clone>⟧.is_clone x y → y ≡ x }
+    ensures tokens { (x y : FormatToken) → ⟦<FormatToken<'a> as Clone>⟧.is_clone x y → y ≡ x }
+    ensures errors { (x y : FormatError) → ⟦<FormatError<'a> as Clone>⟧.is_clone x y → y ≡ x }
 {}
 
 /// The clone of what is copied is made whatever memory there is.
-pub fn clones_succeed()
+pub fn clones_succeed<'a>()
     ensures types { (x : DialectTypes) → ⟦<DialectTypes as Clone>⟧.is_infallible x }
     ensures dialects { (x : Dialect) → ⟦<Dialect as Clone>⟧.is_infallible x }
     ensures quotes { (x : FStringQuote) → ⟦<FStringQuote as Clone>⟧.is_infallible x }
     ensures conversions { (x : FStringConv) → ⟦<FStringConv as Clone>⟧.is_infallible x }
     ensures captures { (x : FormatConv) → ⟦<FormatConv as Clone>⟧.is_infallible x }
     ensures braces { (x : EscapeCurlyBrace) → ⟦<EscapeCurlyBrace as Clone>⟧.is_infallible x }
+    ensures kinds { (x : FormatErrorKind) → ⟦<FormatErrorKind as Clone>⟧.is_infallible x }
+    ensures numbers { (x : TokenIntError) → ⟦<TokenIntError as Clone>⟧.is_infallible x }
     ensures faults { (x : LexemeError) → ⟦<LexemeError as Clone>⟧.is_infallible x }
+    ensures tokens { (x : FormatToken) → ⟦<FormatToken<'a> as Clone>⟧.is_infallible x }
+    ensures errors { (x : FormatError) → ⟦<FormatError<'a> as Clone>⟧.is_infallible x }
 {}

@@ -97,22 +97,26 @@ pub fn pieces_equal<'a>()
     ensures { (x y : StrIndices) → (⟦<StrIndices<'a> as PartialEq>⟧.eq x y ≡ true) ↔ ((x.start ≡ y.start) × (x.haystack.now ≡ y.haystack.now)) }
 {}
 
-/// The clone of what is copied is itself.
-pub fn clones_are_copies()
+/// The clone of what is copied is itself, and that of a piece is the same piece of the same text.
+pub fn clones_are_copies<'a>()
     ensures places { (p q : Pos) → ⟦<Pos as Clone>⟧.is_clone p q → q ≡ p }
     ensures stretches { (s t : Span) → ⟦<Span as Clone>⟧.is_clone s t → t ≡ s }
     ensures lines { (p q : ResolvedPos) → ⟦<ResolvedPos as Clone>⟧.is_clone p q → q ≡ p }
     ensures line_stretches { (s t : ResolvedSpan) → ⟦<ResolvedSpan as Clone>⟧.is_clone s t → t ≡ s }
     ensures counts { (p q : CharIndex) → ⟦<CharIndex as Clone>⟧.is_clone p q → q ≡ p }
     ensures ids { (p q : CodeMapId) → ⟦<CodeMapId as Clone>⟧.is_clone p q → q ≡ p }
+    ensures faults { (x y : CodeMapError) → ⟦<CodeMapError as Clone>⟧.is_clone x y → y ≡ x }
+    ensures pieces { (x y : StrIndices) → ⟦<StrIndices<'a> as Clone>⟧.is_clone x y → y ≡ x }
 {}
 
 /// The clone of what is copied is made whatever memory there is.
-pub fn clones_succeed()
+pub fn clones_succeed<'a>()
     ensures places { (p : Pos) → ⟦<Pos as Clone>⟧.is_infallible p }
     ensures stretches { (s : Span) → ⟦<Span as Clone>⟧.is_infallible s }
     ensures lines { (p : ResolvedPos) → ⟦<ResolvedPos as Clone>⟧.is_infallible p }
     ensures line_stretches { (s : ResolvedSpan) → ⟦<ResolvedSpan as Clone>⟧.is_infallible s }
     ensures counts { (p : CharIndex) → ⟦<CharIndex as Clone>⟧.is_infallible p }
     ensures ids { (p : CodeMapId) → ⟦<CodeMapId as Clone>⟧.is_infallible p }
+    ensures faults { (x : CodeMapError) → ⟦<CodeMapError as Clone>⟧.is_infallible x }
+    ensures pieces { (x : StrIndices) → ⟦<StrIndices<'a> as Clone>⟧.is_infallible x }
 {}
