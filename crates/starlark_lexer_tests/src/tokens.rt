@@ -31,12 +31,18 @@ fn shown(rt: HostRuntime) {
     shows(m, Token::FStringStart(quote), "FStringStart(TripleDouble)");
 }
 
-/// Each kind of token, and those that hold something with two values of it.
+/// Each kind of token, and those that hold something with several values of it: one that begins or ends as another does, one that
+/// another kind holds too, and some once more.
 static ALL: &str = "and break continue def elif else for if in lambda load not or pass return
 , ; : = += -= *= /= //= %= &= |= ^= <<= >>= == != < > <= >= + - * ** / // % & | ^ << >> ~ . ... -> ( ) [ ] { }
-a b 1 2 0x80000000 0x80000001 0b10000000000000000000000000000000 1.0 2.0 \"a\" \"b\" b\"a\" b\"b\"
-f\"a{x!r}b\" f'c' f'''d''' f\"\"\"e\"\"\" # c
+a b ab 1 2 257 65537 0x80000000 0x80000001 0x800000010 0b10000000000000000000000000000000 20000000000 0x20000000000
+1.0 2.0 1.05 11.0 \"\" \"a\" \"b\" \"ab\" \"1.0\" b\"\" b\"a\" b\"b\" b\"ab\"
+f\"a{x!r}b\" f'c' f'''d''' f\"\"\"e\"\"\" f'cd' f'ab' f'1.0' # c
   x # d
+ab 257 0x80000001 1.05 \"ab\" b\"ab\" f'cd' # cd
+#
+#ab
+#1.0
 ";
 
 /// Two tokens are equal exactly where they show the same to a reader of code.
