@@ -1,10 +1,12 @@
 -- The definitions of lexemes, literals, integers and format strings at some literals.
-use Rattle.std.proofs.Common.{◌≡◌, [], ◌∷◌, refl, Some, None, true, false}
+use Rattle.std.proofs.Common.{◌≡◌, [], ◌∷◌, refl, Some, None, true, false, arith}
 use Rattle.std.specs.Prelude.{codes, negsuc}
 use lib.Utf8.{encode}
 use Rattle.starlark_lexer.specs.Items.{identifier, float, keyword_if, plus_equal, small, big}
 use Rattle.starlark_lexer.specs.Classes.{meaning, keyword_of, is_reserved, token, refused, operator_of, line_end, line_len, escaped, width}
 use Rattle.starlark_lexer.specs.Literals.{opening_of, read, piece, escape, raw_escape}
+use Rattle.starlark_lexer.specs.Joining.{FirstLine, here, blank, remark}
+use Rattle.starlark_lexer.specs.Joining as lines
 use Rattle.starlark_lexer.specs.Number.{number}
 use Rattle.starlark_lexer.specs.Format.{text, capture, escape as brace}
 use Rattle.starlark_lexer.specs.FormatScan.{parsed, turn}
@@ -97,3 +99,14 @@ format_string = refl
 unmatched_brace : (parsed 0 0 (codes "a{b")).error ≡ Some Unmatched
 unfolding parsed turn
 unmatched_brace = refl
+
+line_behind_a_comment : FirstLine (codes "\n # c\r\nx") 7
+unfolding line_end line_len
+line_behind_a_comment = blank (codes "\n # c\r\nx") (codes " # c\r\nx") 6 refl (remark (codes " # c\r\nx") (codes " c\r\nx") 0 refl (here (codes "x") 120 [] refl (λ e. omega (arith, e)) (λ e. omega (arith, e))))
+
+line_that_is_escaped : FirstLine (codes "\\\n# c\nx") 0
+line_that_is_escaped = here (codes "\\\n# c\nx") 92 (codes "\n# c\nx") refl (λ e. omega (arith, e)) (λ e. omega (arith, e))
+
+no_line_with_a_width : FirstLine (codes "# c\n  ") 6
+unfolding line_end line_len
+no_line_with_a_width = remark (codes "# c\n  ") (codes " c\n  ") 2 refl (lines.none (codes "  ") refl)

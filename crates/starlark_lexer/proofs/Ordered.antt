@@ -27,21 +27,21 @@ use Rattle.starlark_lexer.proofs.Gaps.{line_end_within, line_len_within}
 -- ---- what stands before
 
 -- an f-string begins before the place
-abbrev Begun : ℕ → Mode → Type 0
+abbrev pub Begun : ℕ → Mode → Type 0
 Begun i rules.code = Unit {0}
 Begun i (rules.inside b g) = b ≤ i
 Begun i (rules.field b g bs) = b ≤ i
 
-abbrev AllBegun : ℕ → List Mode → Type 0
+abbrev pub AllBegun : ℕ → List Mode → Type 0
 AllBegun i [] = Unit {0}
 AllBegun i (m ∷ ms) = Begun i m × AllBegun i ms
 
 -- the last line end and the f-strings around stand before the place
-record Sound (p : Past) : Type 0 where
-  ordered : (newline_span p.items).0 ≤ (newline_span p.items).1
-  before : (newline_span p.items).1 ≤ p.place
-  mode : Begun p.place p.mode
-  outer : AllBegun p.place p.outer
+pub record Sound (p : Past) : Type 0 where
+  pub ordered : (newline_span p.items).0 ≤ (newline_span p.items).1
+  pub before : (newline_span p.items).1 ≤ p.place
+  pub mode : Begun p.place p.mode
+  pub outer : AllBegun p.place p.outer
 
 begun_more : (i j : ℕ) (m : Mode) → i ≤ j → Begun i m → Begun j m
 begun_more i j rules.code le h = h
@@ -100,15 +100,15 @@ sooner i j n [] (Some s) le h = (omega (arith, h.0, le), h.1, h.2)
 sooner i j n (x ∷ xs) f le h = (omega (arith, h.0, le), h.1, h.2)
 
 -- What a step gives stands before where it goes on. As many widths are open behind it as vs has.
-record Within (p : Past) (ws rest : List ℕ) (xs : List Item) (q : Past) (more : List ℕ) : Type 0 where
-  order : (n : ℕ) (ys : List Item) (f : Option Stop) → InOrder q.place n ys f → InOrder p.place n (xs ++ ys) f
-  place : q.place + length more ≡ p.place + length rest
-  sound : Sound q
-  vs : List ℕ
-  stack : IsStack q.lines vs
-  count : length xs + length vs + 2 * length more ≤ length ws + 2 * length rest
+pub record Within (p : Past) (ws rest : List ℕ) (xs : List Item) (q : Past) (more : List ℕ) : Type 0 where
+  pub order : (n : ℕ) (ys : List Item) (f : Option Stop) → InOrder q.place n ys f → InOrder p.place n (xs ++ ys) f
+  pub place : q.place + length more ≡ p.place + length rest
+  pub sound : Sound q
+  pub vs : List ℕ
+  pub stack : IsStack q.lines vs
+  pub count : length xs + length vs + 2 * length more ≤ length ws + 2 * length rest
 
-abbrev Steps : Past → List ℕ → List ℕ → Move → Type 0
+abbrev pub Steps : Past → List ℕ → List ℕ → Move → Type 0
 Steps p ws rest (on xs q more) = Within p ws rest xs q more
 Steps p ws rest (over l) = InOrder p.place (p.place + length rest) l.items l.fault × (length l.items ≤ length ws + 1)
 
@@ -253,7 +253,7 @@ wide_blank [] zero h = absurd (omega (arith, h))
 wide_blank (b ∷ bs) zero h = absurd (omega (arith, h))
 wide_blank rest (suc n) h = omega arith
 
-within : {p : Past} {rest : List ℕ} {m : Move} (ws : List ℕ) → Step p rest m → Sound p → IsStack p.lines ws → Steps p ws rest m
+pub within : {p : Past} {rest : List ℕ} {m : Move} (ws : List ℕ) → Step p rest m → Sound p → IsStack p.lines ws → Steps p ws rest m
 within ws (rules.blank_line p rest more f e) h s = gives_within p ws rest h s (leading rest) newline 1 (leading rest + 1) true (omega arith) (omega arith) (omega (arith, short rest more 10 e))
 within ws (rules.remark_line p rest more f e) h s =
     let n = line_len more in
@@ -313,7 +313,7 @@ within ws (rules.bangs p b g bs rest f c d e) h s = gives_within p ws (33 ∷ re
 
 -- ---- all steps
 
-in_order : {p : Past} {rest : List ℕ} {l : Lexed} (ws : List ℕ) → Lex p rest l → Sound p → IsStack p.lines ws → InOrder p.place (p.place + length rest) l.items l.fault
+pub in_order : {p : Past} {rest : List ℕ} {l : Lexed} (ws : List ℕ) → Lex p rest l → Sound p → IsStack p.lines ws → InOrder p.place (p.place + length rest) l.items l.fault
 in_order ws (goes_on p rest xs q more l step d) h s =
     let w = within ws step h s in
     let o : InOrder q.place (p.place + length rest) l.items l.fault = subst (λ n. InOrder q.place n l.items l.fault) w.place (in_order w.vs d w.sound w.stack) in
@@ -324,7 +324,7 @@ few : {p : Past} {rest : List ℕ} {l : Lexed} (ws : List ℕ) → Lex p rest l 
 few ws (goes_on p rest xs q more l step d) h s = let w = within ws step h s in omega (arith, few w.vs d w.sound w.stack, w.count, length-append xs l.items)
 few ws (is_over p rest l step) h s = omega (arith, (within ws step h s).1)
 
-at_start : Sound start
+pub at_start : Sound start
 at_start = record { ordered = omega arith; before = omega arith; mode = tt; outer = tt }
 
 pub ordered : (text : List ℕ) (l : Lexed) → Lex start text l → InOrder 0 (length text) l.items l.fault

@@ -1,8 +1,10 @@
 -- A text behind another.
-use Rattle.std.specs.Prelude.{◌≡◌, ◌+◌, ◌-◌, ℕ, zero, suc, Bool, true, false, not, if◌then◌else◌, ◌&&◌, ◌||◌, List, [], ◌∷◌, ◌++◌, map, length, count_by, Option, Some, None}
+use Rattle.std.specs.Prelude.{◌≡◌, ◌≢◌, ◌<◌, ◌⊎◌, ◌+◌, ◌-◌, ℕ, zero, suc, Bool, true, false, not, if◌then◌else◌, ◌&&◌, ◌||◌, List, [], ◌∷◌, ◌++◌, map, drop, length, count_by, Option, Some, None}
 use Rattle.std.specs.List.{list_all}
 use Rattle.starlark_lexer.specs.Items.{Lexeme, newline, is_newline, indent, dedent, dedents, comment, fstring_start, fstring_end, Item, item, opening_item, closing_item, Stop, Lexed, with_items}
+use Rattle.starlark_lexer.specs.Classes.{leading, line_len, line_end}
 use Rattle.starlark_lexer.specs.Lex.{Lex, start}
+use Rattle.starlark_lexer.specs.Order.{InOrder}
 
 -- The text ends in a line feed that no backslash escapes: neither right before it nor before a CR right before it stands one.
 pub record IsClosed (text : List ℕ) : Type 0 where
@@ -92,7 +94,20 @@ abbrev pub opens_level : List Item → Bool
 opens_level [] = true
 opens_level (x ∷ xs) = if line_item x then opens_level xs else not (is_indent x.lexeme)
 
--- The same where so many Dedents close the first text: they stand behind line ends and comments at the front of the second.
+-- how many bytes the line at the front has, with its line end
+abbrev pub whole_line : List ℕ → ℕ
+whole_line xs = line_len xs + line_end (drop (line_len xs) xs)
+
+-- The first line of a text that has a width begins at that place: each line before it is blank or a comment. Where no line has one, the
+-- text ends there.
+pub data FirstLine : List ℕ → ℕ → Type 0 where
+  none : (text : List ℕ) → leading text ≡ length text → FirstLine text (length text)
+  here : (text : List ℕ) (b : ℕ) (more : List ℕ) → drop (leading text) text ≡ b ∷ more → b ≢ 10 → b ≢ 35 → FirstLine text 0
+  blank : (text more : List ℕ) (n : ℕ) → drop (leading text) text ≡ 10 ∷ more → FirstLine more n → FirstLine text (leading text + 1 + n)
+  remark : (text more : List ℕ) (n : ℕ) → drop (leading text) text ≡ 35 ∷ more → FirstLine (drop (whole_line more) more) n → FirstLine text (leading text + 1 + whole_line more + n)
+
+-- The same where so many Dedents close the first text. They stand in the second where its first line that has a width begins: behind
+-- the line ends and comments before it, and before all else. Where no line has one they stand at its end, behind all that it is cut into.
 pub record IsLaid (a b : List ℕ) (l m : Lexed) : Type 0 where
   pub items : List Item
   pub count : ℕ
@@ -103,4 +118,7 @@ pub record IsLaid (a b : List ℕ) (l m : Lexed) : Type 0 where
   pub second : m.items ≡ front ++ more
   pub lines : list_all line_item front ≡ true
   pub place : ℕ
+  pub line : FirstLine b place
+  pub before : InOrder 0 place front None
+  pub behind : ((place ≡ length b) × (more ≡ [])) ⊎ ((place < length b) × InOrder place (length b) more m.fault)
   pub both : Lex start (a ++ b) (with_items items (lexed_on (length a) (record { items = front ++ (dedents place count ++ more); fault = m.fault })))
