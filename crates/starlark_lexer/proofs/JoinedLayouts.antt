@@ -125,7 +125,7 @@ module _ (n : ℕ) (is : List Item) (ls closed : List ℕ) (shuts : Closes ls 0 
       let n = whole_line more in
       let size : leading rest + (1 + line_len more) + line_end (drop (line_len more) more) ≡ leading rest + (n + 1) = omega arith in
       let moved : drop (leading rest + (1 + line_len more) + line_end (drop (line_len more) more)) rest ≡ drop n more =
-          ap (λ i. drop i rest) size ∙ sym (drop-drop (n + 1) (leading rest) rest) ∙ ap (drop (n + 1)) e ∙ ap (λ i. drop i (35 ∷ more)) {x = n + 1} {y = suc n} (omega arith) in
+      ap (λ i. drop i rest) size ∙ sym (drop-drop (n + 1) (leading rest) rest) ∙ ap (drop (n + 1)) e ∙ ap (λ i. drop i (35 ∷ more)) {x = n + 1} {y = suc n} (omega arith) in
       let whole : leading rest + 1 + n + k ≡ leading rest + (1 + line_len more) + line_end (drop (line_len more) more) + k = omega arith in
       subst (FirstLine rest) whole (lines.remark rest more k e (subst (λ ys. FirstLine ys k) moved l))
 

@@ -6,49 +6,22 @@ ghost use Rattle.starlark_lexer.specs.Classes as classes;
 ghost use Rattle.starlark_lexer.specs.Identifier as spec;
 ghost use Rattle.starlark_lexer.specs.Identifier.{Answers};
 
-use crate::scan::{is_reserved, keyword_of};
+use crate::blocks::word_len;
+use crate::scan::{Class, is_reserved, keyword_of, run_len};
 use std::alloc::{AllocError, Global};
-
-fn is_blank(b: u8) -> bool
-    ensures { result ≡ classes.is_blank b }
-{
-    b == b' ' || b == b'\t' || b == b'\r'
-}
-
-fn is_word_byte(b: u8) -> bool
-    ensures { result ≡ classes.is_word_byte b }
-{
-    b.is_ascii_alphanumeric() || b == b'_'
-}
 
 /// How many blanks stand at the front.
 fn blanks(bytes: &[u8]) -> usize
     ensures value { result ≡ prefix_len classes.is_blank bytes.now }
     ensures within { result ≤ length bytes.now }
 {
-    let mut end = 0;
-    while end < bytes.len() && is_blank(bytes[end]) {
-        end += 1;
-    }
-    end
+    run_len(Class::Blank, bytes)
 }
 
 fn are_blanks(bytes: &[u8]) -> bool
     ensures { result ≡ list_all classes.is_blank bytes.now }
 {
     blanks(bytes) == bytes.len()
-}
-
-/// How many letters, digits and underscores stand at the front.
-fn word_len(bytes: &[u8]) -> usize
-    ensures value { result ≡ prefix_len classes.is_word_byte bytes.now }
-    ensures within { result ≤ length bytes.now }
-{
-    let mut end = 0;
-    while end < bytes.len() && is_word_byte(bytes[end]) {
-        end += 1;
-    }
-    end
 }
 
 /// A run of letters, digits and underscores is an identifier.

@@ -121,7 +121,7 @@ fn is_in(class: Class, b: u8) -> bool
 }
 
 /// How many bytes at the front are of the class. None is counted.
-fn run_len(class: Class, bytes: &[u8]) -> usize
+pub(crate) fn run_len(class: Class, bytes: &[u8]) -> usize
     requires { IsClass class }
     ensures value { result ≡ prefix_len (spec.is_in class) bytes.now }
     ensures within { result ≤ length bytes.now }
