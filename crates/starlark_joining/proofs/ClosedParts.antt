@@ -8,12 +8,13 @@ use Rattle.starlark_grammar.specs.Marks.{Clean}
 use Rattle.starlark_grammar.specs.Frames.{Blocks, outer, inner, Suites, at_line}
 use Rattle.starlark_grammar.specs.Runs.{Trace, Accepts, bottom, marks_of, note, run}
 use Rattle.starlark_joining.specs.Kept.{Kept, SameTops, all_same, but_last}
+use Rattle.starlark_joining.specs.Relaid.{NoElse}
 use Rattle.starlark_grammar.proofs.Sound.{bottom_note}
 use Rattle.starlark_grammar.proofs.Steps.{runs_end}
 use Rattle.starlark_joining.proofs.Walking.{CleanRun, halts, clean_now, clean_then, clean_both}
 use Rattle.starlark_joining.proofs.Level.{no_stuck}
 use Rattle.starlark_joining.proofs.Tops.{SameBlocks, in_outer, in_inner, closed, closed_row, first_self}
-use Rattle.starlark_joining.proofs.Rowed.{NoElse, closing, dedent_runs}
+use Rattle.starlark_joining.proofs.Rowed.{closing, dedent_runs}
 
 -- the first text is over, and the second goes on at a line's beginning
 pub record Ends (d : Dialect) (h n p count e f : ℕ) (k l : Blocks) (raw : Statement) : Type 0 where

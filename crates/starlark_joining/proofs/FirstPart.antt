@@ -12,6 +12,7 @@ use Rattle.starlark_grammar.specs.Frames.{Blocks, outer, Suites, State, at_line,
 use Rattle.starlark_grammar.specs.Machine.{settled}
 use Rattle.starlark_grammar.specs.Runs.{Accepts, bottom, marks_of, note, run, initial}
 use Rattle.starlark_joining.specs.Kept.{Kept, SameTops}
+use Rattle.starlark_joining.specs.Relaid.{NoElse}
 use Rattle.starlark_grammar.proofs.Sound.{bottom_note}
 use Rattle.starlark_grammar.proofs.Steps.{runs_end}
 use Rattle.starlark_joining.proofs.Walking.{CleanRun, runs_on, halts, clean_now, clean_then, clean_both}
@@ -19,7 +20,7 @@ use Rattle.starlark_joining.proofs.Level.{no_stuck}
 use Rattle.starlark_joining.proofs.Rows.{Row, row_line, row_for, row_if, row_indent}
 use Rattle.starlark_joining.proofs.Coming.{ends_line, Comes, Fails, comes}
 use Rattle.starlark_joining.proofs.Tops.{blocks_self}
-use Rattle.starlark_joining.proofs.Rowed.{NoElse, for_runs, if_runs, newline_runs}
+use Rattle.starlark_joining.proofs.Rowed.{for_runs, if_runs, newline_runs}
 use Rattle.starlark_joining.proofs.ClosedParts.{Ends, ends_all, no_else_dedents}
 
 -- line ends

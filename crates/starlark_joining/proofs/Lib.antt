@@ -3,6 +3,7 @@ pub mod Balanced
 pub mod Classes
 pub mod ClosedParts
 pub mod Coming
+pub mod Dedents
 pub mod Even
 pub mod EvenExpressions
 pub mod EvenStatements
@@ -10,6 +11,7 @@ pub mod FirstPart
 pub mod JoinedRules
 pub mod Level
 pub mod LikeFindings
+pub mod Relaying
 pub mod Rowed
 pub mod Rows
 pub mod SameArguments

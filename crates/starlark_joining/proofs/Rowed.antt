@@ -1,5 +1,5 @@
 -- A line that may begin behind a suite begins as any other line, but for `else` and `elif`.
-use Rattle.std.proofs.Common.{ℕ, ◌≡◌, ◌∷◌, ◌∙◌, [], List, Option, Some, None, Bool, true, false, refl, ap, sym, true≢false}
+use Rattle.std.proofs.Common.{ℕ, ◌≡◌, ◌∷◌, ◌∙◌, [], List, Option, Some, None, false, refl, ap, sym, true≢false}
 use Rattle.starlark_grammar.specs.Spans.{stretch}
 use Rattle.starlark_lexer.specs.Items.{Lexeme, newline, dedent, keyword_elif, keyword_else, Item, item}
 use Rattle.starlark_ast.specs.Tree.{Expr, Sequence, Statement, add_statement, when}
@@ -9,19 +9,9 @@ use Rattle.starlark_grammar.specs.Frames.{Blocks, inner, Ifs, Suites, of_if, of_
 use Rattle.starlark_grammar.specs.Machine.{settled, close}
 use Rattle.starlark_grammar.specs.Runs.{note, run}
 use Rattle.starlark_grammar.proofs.Steps.{runs, runs_end}
+use Rattle.starlark_joining.specs.Relaid.{NoElse, is_else}
 use Rattle.starlark_joining.proofs.Walking.{runs_on}
 use Rattle.starlark_joining.proofs.Tops.{closed}
-
--- an `if` goes on with it
-abbrev pub is_else : Lexeme → Bool
-is_else keyword_else = true
-is_else keyword_elif = true
-is_else _ = false
-
--- no `if` goes on with the first of them
-abbrev pub NoElse : List Item → Type 0
-NoElse [] = Unit {0}
-NoElse (x ∷ xs) = is_else x.lexeme ≡ false
 
 pub for_runs : (l : Expr) (k : Blocks) (e : ℕ) (ys : List Item) → run (behind_for l k e) ys ≡ note ys (Some (looped l)) (run (at_line k e) ys)
 for_runs l k e [] = runs_end (behind_for l k e) ∙ ap (note [] (Some (looped l))) (sym (runs_end (at_line k e)))

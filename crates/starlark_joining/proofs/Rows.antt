@@ -23,7 +23,7 @@ abbrev pub RowOr : ℕ → Option State → Type 0
 RowOr e None = Unit {0}
 RowOr e (Some s) = Row e s
 
-close_row : (k : Suites) (s : Statement) (e : ℕ) → Row e (close k s e)
+pub close_row : (k : Suites) (s : Statement) (e : ℕ) → Row e (close k s e)
 close_row (f.of_if q b k) s e = row_if
 close_row (f.of_else q r b k) s e = row_line
 close_row (f.of_for l q b k) s e = row_for

@@ -3,7 +3,6 @@ use Rattle.std.proofs.Common.{ℕ, Option, Some, None}
 use Rattle.starlark_place.specs.Place.{Extent}
 use Rattle.starlark_ast.specs.Tree as t
 use Rattle.starlark_ast.specs.Tree.{Expr, Member, Members, Bound, Annotation, Subscript, Clause, Clauses, Name, Symbol, Symbols, Statement, Sequence}
-use Rattle.starlark_grammar.specs.Events.{typed}
 use Rattle.starlark_joining.specs.Same.{SameSpan, SameExpr, same_leaf, same_tuple, same_list, same_dict, same_comprehension, same_dot, same_index, same_call, same_lambda, same_signed, same_operation, same_choice, same_fstring, SameMember, same_item, same_pair, same_positional, same_named, same_args, same_kwargs, same_slash, same_no_args, same_parameter, SameMembers, same_none, same_more, SameBound, same_absent, same_present, SameAnnotation, same_untyped, same_typed, SameSubscript, same_single, same_double, same_slice, SameClause, same_for_clause, same_if_clause, SameClauses, same_no_clauses, same_and_clause, SameName, same_name, SameSymbol, same_symbol, SameComma, no_comma, same_comma, SameSymbols, same_no_symbols, same_add_symbol, SameValue, no_value, same_value, SameStatement, same_break, same_continue, same_pass, same_return, same_load, same_expression, same_assign, same_when, same_either, same_repeat, same_define, same_block, SameSequence, same_no_statements, same_add_statement}
 
 pub same_span_self : {R : ℕ → ℕ → Type 0} → ((n : ℕ) → R n n) → (s : Extent) → SameSpan R s s

@@ -14,9 +14,9 @@ use Rattle.starlark_grammar.specs.Runs.{Accepts, bottom, marks_of, run, initial}
 use Rattle.starlark_joining.specs.Same.{SameSequence}
 use Rattle.starlark_joining.specs.Joined.{SameEvent, behind, Greater}
 use Rattle.starlark_joining.specs.Kept.{Moved}
+use Rattle.starlark_joining.specs.Relaid.{NoElse, is_else}
 use Rattle.starlark_joining.proofs.Walking.{CleanRun, halts}
 use Rattle.starlark_joining.proofs.Level.{no_stuck}
-use Rattle.starlark_joining.proofs.Rowed.{NoElse, is_else}
 use Rattle.starlark_joining.proofs.FirstPart.{Lined, lined}
 use Rattle.starlark_grammar.proofs.Uncommented.{without_append}
 use Rattle.starlark_joining.proofs.Uncommented.{without_on, all_lines, items_on}

@@ -1,4 +1,4 @@
-//! Laws of a text behind another.
+//! Laws of a text behind another, and of line ends.
 #![tactic(auto)]
 
 pub mod laws;
