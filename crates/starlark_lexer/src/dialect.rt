@@ -3,11 +3,12 @@
 /// What is done with types.
 #[derive(Clone, Copy, Debug, PartialEq, Eq)]
 pub enum DialectTypes {
-    /// They are refused.
+    /// They are refused, and so is `...`.
     Disable,
-    /// They are read, and have no meaning.
+    /// They are taken, as by `Enable`. A caller that gives types a meaning may tell it to give them none; no call here makes
+    /// a difference between the two but `==`.
     ParseOnly,
-    /// They are read.
+    /// They are taken.
     Enable,
 }
 

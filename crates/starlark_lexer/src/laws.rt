@@ -31,8 +31,9 @@ pub fn joined_texts()
 {}
 
 /// The same of two texts without fault, of which the first is closed and even, where Dedents may
-/// close the first: they stand behind the line ends and comments at the front of the second, whose
-/// first line that has a width is not indented.
+/// close the first and no Indent stands behind the line ends and comments at the front of the second:
+/// they stand behind these, or behind the first ones of them, as where an escaped line end gives the
+/// line of a comment a width.
 pub fn joined_layouts()
     ensures { (a b : List ℕ) (l m : Lexed) → Lex start a l → Lex start b m → l.fault ≡ None → m.fault ≡ None → IsClosed a → IsEven l.items → opens_level m.items ≡ true → IsLaid a b l m }
 {}
