@@ -78,7 +78,7 @@ pub type Stmt = StmtP<AstNoPayload>;
 /// An expression at its place.
 pub type AstExprP<P> = Spanned<ExprP<P>>;
 
-/// A type at its place, which is that of its expression.
+/// A type at its place, which in the tree of a text is that of its expression.
 pub type AstTypeExprP<P> = Spanned<TypeExprP<P>>;
 
 /// What is assigned to, at its place.
@@ -99,7 +99,7 @@ pub type AstParameterP<P> = Spanned<ParameterP<P>>;
 /// A statement at its place.
 pub type AstStmtP<P> = Spanned<StmtP<P>>;
 
-/// An f-string at its place, from its prefix to its closing quotes.
+/// An f-string at its place.
 pub type AstFStringP<P> = Spanned<FStringP<P>>;
 
 /// An expression at its place, without payloads.

@@ -5,8 +5,7 @@
 pub enum DialectTypes {
     /// They are refused, and so is `...`.
     Disable,
-    /// They are taken, as by `Enable`. A caller that gives types a meaning may tell it to give them none; no call here makes
-    /// a difference between the two but `==`.
+    /// They are taken, and all is read and refused as with `Enable`. A caller may tell the two apart.
     ParseOnly,
     /// They are taken.
     Enable,

@@ -26,7 +26,7 @@ use thiserror::Error;
 pub struct CodeMapId(pub u64);
 
 impl CodeMapId {
-    /// The id 0: for a map that no other is told from by its id. So it does for a text by itself.
+    /// The id 0. It does where a map need not be told from others by its id: for a text by itself.
     pub const EMPTY: CodeMapId = CodeMapId(0);
 }
 
