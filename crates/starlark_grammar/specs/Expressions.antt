@@ -1,4 +1,8 @@
--- The grammar of expressions and of lists: the section "Grammar" of docs/LANGUAGE.md. Each relation takes the tokens from the first one that is read on, those behind the last, what they make, and, where a span needs it, the end of the last token that is read. Pairs of small letters are the places of tokens; a, b, c and z are tokens; d, e and f are mostly ends.
+-- The grammar of expressions and of lists (docs/LANGUAGE.md, Grammar).
+--
+-- In all files of the grammar a relation takes the tokens from the first one that is read on, those behind the last, what
+-- they make, and, where a span needs it, the end of the last token that is read. Pairs of small letters are the places of
+-- tokens; a, b, c and z are tokens; d, e and f are mostly ends.
 use Rattle.std.specs.Prelude.{◌≡◌, ℕ, suc, List, [], ◌∷◌, ◌++◌, Some, Bool, true, false}
 use Rattle.starlark_rulebook.specs.Targets.{target_of}
 use Rattle.starlark_grammar.specs.Spans.{stretch}

@@ -1,4 +1,4 @@
--- The grammar of loads: the section "Grammar" of docs/LANGUAGE.md. Each relation takes the tokens from the first one that is read on, those behind the last, what they make, and, where a span needs it, the end of the last token that is read. Pairs of small letters are the places of tokens; a, b, c and z are tokens; d, e and f are mostly ends.
+-- The grammar of loads (docs/LANGUAGE.md, Grammar). What the relations and letters stand for: Expressions.
 use Rattle.std.specs.Prelude.{ℕ, List, ◌∷◌, Some, None}
 use Rattle.starlark_grammar.specs.Spans.{stretch}
 use Rattle.starlark_lexer.specs.Items.{Item, item, identifier, string, comma, equal, opening_round, closing_round}

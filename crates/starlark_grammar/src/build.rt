@@ -16,27 +16,30 @@ use starlark_place::pos::{Span, Spanned};
 use starlark_rulebook::rule::Rule;
 use std::alloc::{AllocError, Global};
 
-/// Makes nodes, and finds the rules that they break.
+/// Makes nodes, and finds the rules that they break (docs/LANGUAGE.md, Rules). `Err` comes only where memory
+/// lacks, and then all that was handed in by value is let go.
 pub trait Build: Make {
-    /// The first rule that an expression breaks as a target.
+    /// The first rule that an expression breaks as a target, at its place. It takes no memory.
     fn target_fault(x: &Self::Expr) -> Option<Spanned<Rule>>
         ensures { maybe_finding result ≡ targets.target_fault (Self.means x.now) };
 
-    /// An expression that breaks no rule as a target.
+    /// An expression that breaks no rule as a target, as one: lists become tuples. `Err` comes where memory lacks.
     fn target(alloc: Global, x: Self::Expr) -> Result<Self::Target, AllocError>
         requires { targets.target_fault (Self.means x) ≡ None }
         ensures { IfOk result (λ t. Self.target_means t ≡ targets.target_of (Self.means x)) };
 
-    /// The first rule that an expression breaks as a type.
+    /// The first rule that an expression breaks as a type where the dialect has types, at its place. `Err` comes where memory
+    /// lacks.
     fn type_fault(alloc: Global, x: &Self::Expr) -> Result<Option<Spanned<Rule>>, AllocError>
         ensures { IfOk result (λ found. maybe_finding found ≡ types.first_type_fault (Self.means x.now)) };
 
-    /// An expression that breaks no rule as a type.
+    /// An expression that breaks no rule as a type, as one, at its place. `Err` comes where memory lacks.
     fn type_of(alloc: Global, x: Self::Expr) -> Result<Self::Type, AllocError>
         requires { types.first_type_fault (Self.means x) ≡ None }
         ensures { IfOk result (λ t. Self.type_means t ≡ type_at (Self.means x)) };
 
-    /// The first rule that an assignment breaks.
+    /// The first rule that an assignment breaks, at its place. `op` is what stands before `=`, if anything does. It takes no
+    /// memory.
     fn assignment_fault(
         left: &Self::Expr,
         ty: &Option<Self::Type>,
@@ -44,7 +47,8 @@ pub trait Build: Make {
     ) -> Option<Spanned<Rule>>
         ensures { maybe_finding result ≡ targets.assignment_fault (Self.means left.now) (annotation_of Self.type_means ty.now) op };
 
-    /// An assignment that breaks no rule.
+    /// `left: ty op= right`, an assignment that breaks no rule, from the begin of its left side on. `Err` comes where memory
+    /// lacks.
     fn assign(
         alloc: Global,
         left: Self::Expr,
@@ -56,7 +60,8 @@ pub trait Build: Make {
         requires { targets.assignment_fault (Self.means left) (annotation_of Self.type_means ty) op ≡ None }
         ensures { IfOk result (λ s. Self.says s ≡ tree.assign (targets.target_of (Self.means left)) (annotation_of Self.type_means ty) op (Self.means right) span) };
 
-    /// The first rule that counts at the end of a text.
+    /// The first rule that counts at the end of a text, at its place: of the kept ones, or else of the late ones
+    /// (docs/LANGUAGE.md, Kept and late). `Err` comes where memory lacks.
     fn end_fault(
         alloc: Global,
         dialect: &Dialect,

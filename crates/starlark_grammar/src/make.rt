@@ -21,7 +21,8 @@ pub enum Sign {
     BitNot,
 }
 
-/// Makes nodes.
+/// Makes nodes. `span` is where the node stands, as docs/LANGUAGE.md, Spans, says. `Err` comes only where memory lacks, and
+/// then all that was handed in is let go.
 pub trait Make {
     /// An expression.
     type Expr: Drop;
@@ -29,38 +30,47 @@ pub trait Make {
     /// The tree without where it lies in memory.
     ghost means: { Self.Expr → tree.Expr };
 
-    /// Where it stands.
+    /// Where an expression stands.
     fn place(x: &Self::Expr) -> Span
         ensures { result ≡ tree.place (means x.now) };
 
     // ---- expressions of one token
 
+    /// An identifier that is read.
     fn name(name: String, span: Span) -> Self::Expr
         ensures { means result ≡ tree.leaf (tree.name (string_bytes name)) span span };
 
+    /// An integer literal.
     fn int(value: TokenInt, span: Span) -> Self::Expr
         ensures { means result ≡ tree.leaf (tree.int (number_of value)) span span };
 
+    /// A float literal, with its text as it stands.
     fn float(text: String, span: Span) -> Self::Expr
         ensures { means result ≡ tree.leaf (tree.float (string_bytes text)) span span };
 
+    /// A string literal, with the text that it denotes.
     fn string(text: String, span: Span) -> Self::Expr
         ensures { means result ≡ tree.leaf (tree.string (string_bytes text)) span span };
 
+    /// A bytes literal, with the bytes that it denotes.
     fn bytes(bytes: Vec<u8>, span: Span) -> Self::Expr
         ensures { means result ≡ tree.leaf (tree.bytes bytes.items) span span };
 
+    /// `...`
     fn ellipsis(span: Span) -> Self::Expr
         ensures { means result ≡ tree.leaf tree.ellipsis span span };
 
     // ---- brackets
 
+    /// A tuple: `()` with its parentheses, any other from its first member's first token on, without them.
     fn tuple(members: Vec<Self::Expr>, span: Span) -> Self::Expr
         ensures { means result ≡ tree.tuple (items_of means members.items) span };
 
+    /// A list, from `[` to `]`.
     fn list(members: Vec<Self::Expr>, span: Span) -> Self::Expr
         ensures { means result ≡ tree.list (items_of means members.items) span };
 
+    /// A dict, from `{` to `}`: its pairs of a key and a value, in order.
     fn dict(members: Vec<(Self::Expr, Self::Expr)>, span: Span) -> Self::Expr
         ensures { means result ≡ tree.dict (pairs_of means members.items) span };
 
@@ -74,6 +84,7 @@ pub trait Make {
 
     ghost for_means: { Self.ForClause → tree.Clause };
 
+    /// `for target in over`, the first clause of a comprehension.
     fn for_clause(target: Self::Target, over: Self::Expr) -> Self::ForClause
         ensures { for_means result ≡ tree.for_clause (target_means target) (means over) };
 
@@ -82,12 +93,15 @@ pub trait Make {
 
     ghost clause_means: { Self.Clause → tree.Clause };
 
+    /// A clause with `for` behind the first one.
     fn next_for(clause: Self::ForClause) -> Self::Clause
         ensures { clause_means result ≡ for_means clause };
 
+    /// `if condition`, a clause of a comprehension.
     fn if_clause(condition: Self::Expr) -> Self::Clause
         ensures { clause_means result ≡ tree.if_clause (means condition) };
 
+    /// `[member first rest]`, from `[` to `]`.
     fn list_comprehension(
         alloc: Global,
         member: Self::Expr,
@@ -97,6 +111,7 @@ pub trait Make {
     ) -> Result<Self::Expr, AllocError>
         ensures { IfOk result (λ x. means x ≡ tree.comprehension (tree.item (means member)) (clauses_of (for_means first) clause_means rest.items) span) };
 
+    /// `{key: value first rest}`, from `{` to `}`. `member` is the key and the value.
     fn dict_comprehension(
         alloc: Global,
         member: (Self::Expr, Self::Expr),
@@ -108,6 +123,7 @@ pub trait Make {
 
     // ---- suffixes
 
+    /// `object.attribute`, from the begin of `object` on.
     fn dot(
         alloc: Global,
         object: Self::Expr,
@@ -121,18 +137,23 @@ pub trait Make {
 
     ghost argument_means: { Self.Argument → tree.Member };
 
+    /// `value`, an argument without a name. Parentheses around it count for `span`.
     fn positional(value: Self::Expr, span: Span) -> Self::Argument
         ensures { argument_means result ≡ tree.positional (means value) span };
 
+    /// `name = value`, an argument.
     fn named(name: Spanned<String>, value: Self::Expr, span: Span) -> Self::Argument
         ensures { argument_means result ≡ tree.named (string_bytes name.node) name.span (means value) span };
 
+    /// `*value`, an argument, from its `*` on.
     fn args(value: Self::Expr, span: Span) -> Self::Argument
         ensures { argument_means result ≡ tree.args (means value) span };
 
+    /// `**value`, an argument, from its `**` on.
     fn kwargs(value: Self::Expr, span: Span) -> Self::Argument
         ensures { argument_means result ≡ tree.kwargs (means value) span };
 
+    /// `callee(arguments)`, from the begin of `callee` to the `)`.
     fn call(
         alloc: Global,
         callee: Self::Expr,
@@ -141,6 +162,7 @@ pub trait Make {
     ) -> Result<Self::Expr, AllocError>
         ensures { IfOk result (λ x. means x ≡ tree.call (means callee) (members argument_means arguments.items) span) };
 
+    /// `object[index]`, from the begin of `object` to the `]`.
     fn index(
         alloc: Global,
         object: Self::Expr,
@@ -149,6 +171,7 @@ pub trait Make {
     ) -> Result<Self::Expr, AllocError>
         ensures { IfOk result (λ x. means x ≡ tree.index (means object) (tree.single (means index)) span) };
 
+    /// `object[first, second]`, from the begin of `object` to the `]`.
     fn index_of_two(
         alloc: Global,
         object: Self::Expr,
@@ -158,6 +181,7 @@ pub trait Make {
     ) -> Result<Self::Expr, AllocError>
         ensures { IfOk result (λ x. means x ≡ tree.index (means object) (tree.double (means first) (means second)) span) };
 
+    /// `object[start:stop:step]`, from the begin of `object` to the `]`. Each of the three may not be there.
     fn slice(
         alloc: Global,
         object: Self::Expr,
@@ -170,6 +194,7 @@ pub trait Make {
 
     // ---- operators
 
+    /// An operand with one sign before it, from the sign on.
     fn signed(
         alloc: Global,
         sign: Sign,
@@ -178,6 +203,7 @@ pub trait Make {
     ) -> Result<Self::Expr, AllocError>
         ensures { IfOk result (λ x. means x ≡ tree.signed (sign_of sign) (means operand) span) };
 
+    /// `left op right`, from the begin of `left` to the end of `right`.
     fn operation(
         alloc: Global,
         left: Self::Expr,
@@ -187,6 +213,7 @@ pub trait Make {
     ) -> Result<Self::Expr, AllocError>
         ensures { IfOk result (λ x. means x ≡ tree.operation (means left) op (means right) span) };
 
+    /// `value if condition else otherwise`, from the begin of `value` on.
     fn choice(
         alloc: Global,
         condition: Self::Expr,
@@ -198,7 +225,8 @@ pub trait Make {
 
     // ---- f-strings
 
-    /// The format stands where the whole does.
+    /// An f-string: its format, with `{}` or `{!r}` for each field, and the fields in order. The format stands where the
+    /// whole does.
     fn f_string(format: String, fields: Vec<Self::Expr>, span: Span) -> Self::Expr
         ensures { means result ≡ tree.fstring (string_bytes format) span (items_of means fields.items) span span };
 
@@ -216,12 +244,15 @@ pub trait Make {
 
     ghost parameter_means: { Self.Parameter → tree.Member };
 
+    /// `/` between parameters.
     fn slash(span: Span) -> Self::Parameter
         ensures { parameter_means result ≡ tree.slash span };
 
+    /// `*` by itself between parameters.
     fn no_args(span: Span) -> Self::Parameter
         ensures { parameter_means result ≡ tree.no_args span };
 
+    /// A parameter without a star: its name, with a type and a default where it has them.
     fn parameter(
         alloc: Global,
         name: Spanned<String>,
@@ -231,7 +262,7 @@ pub trait Make {
     ) -> Result<Self::Parameter, AllocError>
         ensures { IfOk result (λ p. parameter_means p ≡ tree.parameter tree.plain (string_bytes name.node) name.span (annotation_of type_means ty) (bound_of means default) span) };
 
-    /// A parameter behind `*`.
+    /// `*name`, a parameter, from its `*` on, with a type where it has one.
     fn args_parameter(
         alloc: Global,
         name: Spanned<String>,
@@ -240,7 +271,7 @@ pub trait Make {
     ) -> Result<Self::Parameter, AllocError>
         ensures { IfOk result (λ p. parameter_means p ≡ tree.parameter tree.starred (string_bytes name.node) name.span (annotation_of type_means ty) tree.absent span) };
 
-    /// A parameter behind `**`.
+    /// `**name`, a parameter, from its `**` on, with a type where it has one.
     fn kwargs_parameter(
         alloc: Global,
         name: Spanned<String>,
@@ -249,6 +280,7 @@ pub trait Make {
     ) -> Result<Self::Parameter, AllocError>
         ensures { IfOk result (λ p. parameter_means p ≡ tree.parameter tree.double_starred (string_bytes name.node) name.span (annotation_of type_means ty) tree.absent span) };
 
+    /// `lambda parameters: body`, from its keyword on.
     fn lambda(
         alloc: Global,
         parameters: Vec<Self::Parameter>,
@@ -268,18 +300,23 @@ pub trait Make {
     fn statement_place(s: &Self::Stmt) -> Span
         ensures { result ≡ tree.statement_place (says s.now) };
 
+    /// `break`
     fn break_statement(span: Span) -> Self::Stmt
         ensures { says result ≡ tree.break span };
 
+    /// `continue`
     fn continue_statement(span: Span) -> Self::Stmt
         ensures { says result ≡ tree.continue span };
 
+    /// `pass`
     fn pass_statement(span: Span) -> Self::Stmt
         ensures { says result ≡ tree.pass span };
 
+    /// `return`, with a value where it has one.
     fn return_statement(value: Option<Self::Expr>, span: Span) -> Self::Stmt
         ensures { says result ≡ tree.return (maybe_of means value) span };
 
+    /// An expression as a statement.
     fn expression_statement(value: Self::Expr, span: Span) -> Self::Stmt
         ensures { says result ≡ tree.expression (means value) span };
 
@@ -289,14 +326,17 @@ pub trait Make {
     /// What it binds, and the comma behind it.
     ghost symbol_means: { Self.Symbol → tree.Symbol × Option Extent };
 
+    /// A symbol of a load: the name that it binds, the name in the other module, and where the comma behind it stands.
     fn symbol(local: Spanned<String>, their: Spanned<String>, comma: Option<Span>) -> Self::Symbol
         ensures { symbol_means result ≡ (tree.symbol (tree.name_at (string_bytes local.node) local.span) (tree.name_at (string_bytes their.node) their.span), comma) };
 
+    /// `load(source, symbols)`, from its keyword to the `)`. `source` is the string that names the other module.
     fn load(source: Spanned<String>, symbols: Vec<Self::Symbol>, span: Span) -> Self::Stmt
         ensures { says result ≡ tree.load (tree.name_at (string_bytes source.node) source.span) (symbols_of symbol_means symbols.items) span };
 
     // ---- statements with suites
 
+    /// `if condition: suite`, from its `if` or `elif` to the end of the suite.
     fn if_statement(
         alloc: Global,
         condition: Self::Expr,
@@ -305,6 +345,7 @@ pub trait Make {
     ) -> Result<Self::Stmt, AllocError>
         ensures { IfOk result (λ s. says s ≡ tree.when (means condition) (says suite) span) };
 
+    /// The same with `else: otherwise`, or with an `elif` as `otherwise`, to the end of that.
     fn if_else_statement(
         alloc: Global,
         condition: Self::Expr,
@@ -314,6 +355,7 @@ pub trait Make {
     ) -> Result<Self::Stmt, AllocError>
         ensures { IfOk result (λ s. says s ≡ tree.either (means condition) (says suite) (says otherwise) span) };
 
+    /// `for target in over: suite`, to the end of the suite.
     fn for_statement(
         alloc: Global,
         target: Self::Target,
@@ -323,6 +365,7 @@ pub trait Make {
     ) -> Result<Self::Stmt, AllocError>
         ensures { IfOk result (λ s. says s ≡ tree.repeat (target_means target) (means over) (says suite) span) };
 
+    /// `def name(parameters) -> ty: suite`, to the end of the suite.
     fn def_statement(
         alloc: Global,
         name: Spanned<String>,

@@ -3,11 +3,11 @@
 /// What is done with types.
 #[derive(Clone, Copy, Debug, PartialEq, Eq)]
 pub enum DialectTypes {
-    /// They are refused.
+    /// They are refused, and so is `...`.
     Disable,
-    /// They are read, and have no meaning.
+    /// They are taken, and all is read and refused as with `Enable`. A caller may tell the two apart.
     ParseOnly,
-    /// They are read.
+    /// They are taken.
     Enable,
 }
 

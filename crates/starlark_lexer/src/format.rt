@@ -211,7 +211,7 @@ impl<'a> Model for FormatParser<'a> {
 }
 
 impl<'a> FormatParser<'a> {
-    /// It takes no memory.
+    /// A parser of a format string, at its beginning (docs/LANGUAGE.md, Format strings). It takes no memory.
     pub fn new(s: &'a str) -> FormatParser<'a>
         ensures left { Pieces 0 s.now result.left }
         ensures text { result.text ≡ s.now }

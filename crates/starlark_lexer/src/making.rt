@@ -107,8 +107,8 @@ fn literal(alloc: Global, form: Form, body: &str) -> Result<Token, AllocError>
     }
 }
 
-#[tactic(auto, using(crate::proofs::Numbers::big_takes))]
 /// The token of a lexeme with that text. `Err` comes only where the token holds memory.
+#[tactic(auto, using(crate::proofs::Numbers::big_takes))]
 #[inline(always)]
 pub(crate) fn token(alloc: Global, kind: Kind, text: &str) -> Result<Token, AllocError>
     requires { Slices kind text.now }

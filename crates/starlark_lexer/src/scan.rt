@@ -133,8 +133,8 @@ pub(crate) fn run_len(class: Class, bytes: &[u8]) -> usize
     end
 }
 
-#[tactic(auto, using(crate::proofs::Runs::run_nonempty))]
 // How many bytes at the front are of the class.
+#[tactic(auto, using(crate::proofs::Runs::run_nonempty))]
 pub(crate) fn run(class: Class, bytes: &[u8], reads: &mut u64) -> usize
     requires { IsClass class }
     ensures value { result ≡ prefix_len (spec.is_in class) bytes.now }
@@ -443,8 +443,8 @@ fn scan(bytes: &[u8], reads: &mut u64) -> (Found, usize)
     }
 }
 
-#[tactic(auto, unfolding(crate::specs::Classes::line_end))]
 /// How long the line end at the front is: 0 where none stands there.
+#[tactic(auto, unfolding(crate::specs::Classes::line_end))]
 pub(crate) fn line_end(bytes: &[u8], reads: &mut u64) -> usize
     ensures value { result ≡ classes.line_end bytes.now }
     ensures within { result ≤ length bytes.now }
@@ -464,8 +464,8 @@ pub(crate) fn line_end(bytes: &[u8], reads: &mut u64) -> usize
     }
 }
 
-#[tactic(auto, using(crate::proofs::Gaps::line_on, crate::proofs::Gaps::line_stop))]
 /// How many bytes stand before the line's end.
+#[tactic(auto, using(crate::proofs::Gaps::line_on, crate::proofs::Gaps::line_stop))]
 pub(crate) fn line_len(bytes: &[u8], reads: &mut u64) -> usize
     ensures value { result ≡ classes.line_len bytes.now }
     ensures within { result ≤ length bytes.now }
@@ -484,8 +484,8 @@ pub(crate) fn line_len(bytes: &[u8], reads: &mut u64) -> usize
     }
 }
 
-#[tactic(auto, unfolding(crate::specs::Scan::pass))]
 /// How many bytes are passed over at once: 0 where none is. The look at the first of them is not counted.
+#[tactic(auto, unfolding(crate::specs::Scan::pass))]
 fn pass(joined: bool, bytes: &[u8], reads: &mut u64) -> usize
     ensures value { result ≡ spec.pass joined bytes.now }
     ensures within { result ≤ length bytes.now }
@@ -509,8 +509,8 @@ fn pass(joined: bool, bytes: &[u8], reads: &mut u64) -> usize
     }
 }
 
-#[tactic(auto, using(crate::proofs::Gaps::gap_on, crate::proofs::Gaps::gap_stop))]
 /// How many bytes are passed over.
+#[tactic(auto, using(crate::proofs::Gaps::gap_on, crate::proofs::Gaps::gap_stop))]
 pub(crate) fn gap(joined: bool, bytes: &[u8], reads: &mut u64) -> usize
     ensures value { result ≡ spec.gap joined 0 bytes.now }
     ensures within { result ≤ length bytes.now }

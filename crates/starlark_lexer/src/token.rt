@@ -37,9 +37,9 @@ pub enum FStringConv {
 pub enum Token {
     /// A line end that ends a line of the program (docs/LANGUAGE.md, Layout), or the text's end.
     Newline,
-    /// The blanks of a line that is deeper than those before it.
+    /// The blanks of a line whose width is greater than all that are open.
     Indent,
-    /// The end of what such a line began.
+    /// The end of an open width, at a line of a smaller one or at the text's end.
     Dedent,
     /// All behind the `#`, up to the line's end.
     Comment(String),

@@ -27,7 +27,8 @@ pub struct AstLoad<'a> {
 }
 
 impl AstModule {
-    /// The loads at the top of the tree, in order. A dialect without loads has none.
+    /// The loads at the top of the tree, in order. A dialect without loads has none. `Err` comes where memory,
+    /// or one more owner of shared data, cannot be had.
     pub fn loads(&self, alloc: Global) -> Result<Vec<AstLoad<'_>>, AllocError>
         ensures { IfOk result (λ v. map loaded v.items ≡ loads_of self.now) }
     {

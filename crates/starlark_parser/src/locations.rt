@@ -14,7 +14,8 @@ use starlark_place::file_span::FileSpan;
 use std::alloc::{AllocError, Global};
 
 impl AstModule {
-    /// Where its statements stand, each before those in it. A list of statements is none of them.
+    /// Where its statements stand, each before those in it. A list of statements is none of them. `Err` comes
+    /// where memory, or one more owner of shared data, cannot be had.
     pub fn stmt_locations(&self, alloc: Global) -> Result<Vec<FileSpan>, AllocError>
         ensures { IfOk result (λ v. v.items ≡ locations_of self.now) }
     {

@@ -46,7 +46,7 @@ impl Model for Parts {
 }
 
 impl Parts {
-    /// No parts, whose texts are read in that dialect. Joined they may have at most `u32::MAX` bytes.
+    /// An empty list, whose parts are read in that dialect. Joined they may have at most `u32::MAX` bytes. It takes no memory.
     pub fn new(alloc: Global, dialect: &Dialect) -> Parts
         ensures texts { result.texts ≡ [] }
         ensures limit { result.limit ≡ 4294967295 }
@@ -56,7 +56,7 @@ impl Parts {
         Parts::with_limit(alloc, dialect, u32::MAX)
     }
 
-    /// No parts, whose texts are read in that dialect. Joined they may have at most `limit` bytes.
+    /// The same where joined they may have at most `limit` bytes.
     pub fn with_limit(alloc: Global, dialect: &Dialect, limit: u32) -> Parts
         ensures texts { result.texts ≡ [] }
         ensures limit { result.limit ≡ limit }

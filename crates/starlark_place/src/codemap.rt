@@ -20,12 +20,13 @@ use std::marker::Model;
 use std::rc::Rc;
 use thiserror::Error;
 
-/// What tells one map from another. The caller keeps them apart.
+/// What tells one map from another: `==` and the hash of maps go by it alone. So the caller gives different ids to texts that
+/// are to be told apart.
 #[derive(Clone, Copy, Debug, PartialEq, Eq, PartialOrd, Ord, Hash)]
 pub struct CodeMapId(pub u64);
 
 impl CodeMapId {
-    /// The id of a map of no text.
+    /// The id 0. It does where a map need not be told from others by its id: for a text by itself.
     pub const EMPTY: CodeMapId = CodeMapId(0);
 }
 

@@ -42,7 +42,7 @@ pub fn comparisons_agree()
     ensures hash { (s t : FilePlace) → equals s t ≡ true → hashes s ≡ hashes t }
 {}
 
-/// The id of a map of no text is 0.
+/// `CodeMapId::EMPTY` is 0.
 pub fn empty_id_is_zero()
     ensures { CodeMapId.EMPTY.0 ≡ 0 }
 {}

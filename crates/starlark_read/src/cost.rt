@@ -13,7 +13,7 @@ pub struct Cost {
 }
 
 impl Cost {
-    /// Of a text that is not read.
+    /// The cost of a text that is not read.
     pub const NONE: Cost = Cost { reads: 0, asks: 0 };
 
     /// The same, but no more than a text of so many bytes takes.

@@ -16,7 +16,7 @@ pub struct Comments {
 }
 
 impl Comments {
-    /// The same places and flags, in memory of their own.
+    /// The same places and flags, in memory of their own. `Err` comes only where memory lacks for these.
     pub fn clone(&self, alloc: Global) -> Result<Comments, AllocError>
         ensures places { IfOk result (λ c. c.places.items ≡ self.now.places.items) }
         ensures joined { IfOk result (λ c. c.joined.items ≡ self.now.joined.items) }
@@ -35,7 +35,7 @@ pub struct Told {
 }
 
 impl Told {
-    /// Of a text that was not read.
+    /// What is told of a text that was not read: no comments and no cost. It takes no memory.
     pub fn nothing(alloc: Global) -> Told
         ensures cost { result.cost ≡ record { reads = 0; asks = 0 } }
         ensures places { result.comments.places.items ≡ [] }

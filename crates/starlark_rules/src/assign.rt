@@ -128,7 +128,8 @@ fn annotation_fault<P: AstPayload>(
     }
 }
 
-/// The assignment of what stands on its sides, which breaks no rule: `assignment_fault` tells that.
+/// The assignment of what stands on its sides, which breaks no rule: `assignment_fault` tells that. `Err` comes
+/// only where memory lacks, and then all that was handed in is let go.
 pub fn assignment(
     alloc: Global,
     lhs: AstExpr,
@@ -189,7 +190,8 @@ fn unboxed(ty: Option<Box<AstTypeExpr>>) -> Option<AstTypeExpr>
     }
 }
 
-/// The expression as a target, where it breaks no rule as one: `target_fault` tells that.
+/// The expression as a target, where it breaks no rule as one: `target_fault` tells that. `Err` comes only where memory
+/// lacks, and then it is let go.
 #[cycle(conversion)]
 pub fn target(alloc: Global, x: AstExpr) -> Result<AstAssignTarget, AllocError>
     requires { targets.target_fault (expr_at x) ≡ None }

@@ -1,4 +1,4 @@
-//! The arguments of a call.
+//! The first rule that the arguments of a call break.
 
 ghost use Rattle.std.specs.Prelude.{◌≡◌, true, if◌then◌else◌};
 ghost use Rattle.starlark_ast.specs.View.{argument_at, members};

@@ -1,4 +1,4 @@
-//! The first rule that is kept of an expression.
+//! The first kept rule that an expression breaks.
 
 ghost use Rattle.std.specs.Prelude.{◌≡◌, ◌++◌};
 ghost use Rattle.starlark_ast.specs.Tree as t;
@@ -19,7 +19,7 @@ use starlark_lexer::dialect::Dialect;
 use starlark_place::pos::{Span, Spanned};
 use starlark_rulebook::rule::Rule;
 
-/// The first rule that an expression breaks, with those within it.
+/// The first kept rule that an expression breaks, with those within it.
 #[cycle(kept)]
 pub(crate) fn expression_fault<P: AstPayload>(
     dialect: &Dialect,

@@ -17,7 +17,7 @@ use std::alloc::{AllocError, Global};
 /// The rules that count last, each at its place: what the statements of a tree break, each before those within it, and
 /// then what its expressions break, each before those within it, siblings in the order of docs/LANGUAGE.md, Orders. The
 /// parameters of a `def` or a lambda come right behind it, before its body. The rules and their places stand there in
-/// Rules.
+/// Rules. `Err` comes only where memory lacks for the list or what stands in it.
 pub fn rules_of<P: AstPayload>(
     alloc: Global,
     tree: &AstStmtP<P>,

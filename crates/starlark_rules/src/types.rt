@@ -19,6 +19,7 @@ use starlark_rulebook::rule::{Rule, TypeExprUnpackError};
 use std::alloc::{AllocError, Global};
 
 /// The first rule that an expression breaks as a type, at its place. The rules stand in docs/LANGUAGE.md, Rules.
+/// `Err` comes where memory lacks, also for a type that breaks none: it is taken apart.
 pub fn type_fault<P: AstPayload>(
     alloc: Global,
     x: &AstExprP<P>,

@@ -28,11 +28,13 @@ pub trait NodeVisitor<S, X, E> {
     /// What a call at a node may answer, and what it may leave of the visitor.
     ghost leaves: { Self → Node S X → Result (Unit {0}) E → Self → Type 0 };
 
+    /// Is lent a statement. After an `Err` a visit makes no more calls.
     fn at_stmt(&mut self, x: &S) -> Result<(), E>
         requires { ready self.old }
         ensures called { leaves self.old (statement x.now) result self.new }
         ensures ready { ready self.new };
 
+    /// Is lent an expression. After an `Err` a visit makes no more calls.
     fn at_expr(&mut self, x: &X) -> Result<(), E>
         requires { ready self.old }
         ensures called { leaves self.old (expression x.now) result self.new }

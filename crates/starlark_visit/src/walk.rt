@@ -19,6 +19,7 @@ pub trait StmtVisitor<S, E> {
     /// What a call at a statement may answer, and what it may leave of the visitor.
     ghost leaves: { Self → S → Result (Unit {0}) E → Self → Type 0 };
 
+    /// Is lent a statement. After an `Err` a visit makes no more calls.
     fn at(&mut self, x: &S) -> Result<(), E>
         requires { ready self.old x.now }
         ensures { leaves self.old x.now result self.new };

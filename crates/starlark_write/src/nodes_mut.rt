@@ -30,11 +30,14 @@ pub trait NodeVisitorMut<S, X, E> {
     /// What a call at a node may answer, and what it may leave of the visitor and at the node.
     ghost leaves: { Self → Node S X → Result (Unit {0}) E → Self → Node S X → Type 0 };
 
+    /// Is lent a statement to write to; what it leaves there stays, also behind an `Err`. After that a visit makes no more
+    /// calls.
     fn at_stmt(&mut self, x: &mut S) -> Result<(), E>
         requires { ready self.old }
         ensures called { leaves self.old (statement x.old) result self.new (statement x.new) }
         ensures ready { ready self.new };
 
+    /// The same with an expression.
     fn at_expr(&mut self, x: &mut X) -> Result<(), E>
         requires { ready self.old }
         ensures called { leaves self.old (expression x.old) result self.new (expression x.new) }

@@ -1,4 +1,4 @@
-//! Writes to the types of parameters.
+//! Writes to the types of parameters, of a `def` and of an assignment.
 
 ghost use Rattle.std.specs.Prelude.{◌≡◌, ◌++◌, flat_map};
 ghost use Rattle.std.specs.Vec.{SameBlock};
