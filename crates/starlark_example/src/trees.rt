@@ -10,7 +10,7 @@ pub(crate) fn show(rt: &HostRuntime) -> Result<(), anyhow::Error> {
     let (alloc, dialect) = (rt.alloc(), &Dialect::Standard);
     let mut text = String::new(alloc);
     rt.stdin().read_to_string(&mut text)?;
-    match AstModule::parse(alloc, CodeMapId::EMPTY, "BUILD", text, dialect) {
+    match AstModule::parse(alloc, CodeMapId(1), "BUILD", text, dialect) {
         Ok(module) => print!(rt; "{}", module.statement().node)?,
         Err(EvalException::Fault(fault)) => println!(rt; "{fault}")?,
         Err(EvalException::TooLong) => println!(rt; "the text is too long")?,
