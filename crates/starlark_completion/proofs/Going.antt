@@ -1,7 +1,7 @@
 -- Texts that go on, by how a text that is cut off goes on and how its tokens do.
 use Rattle.std.proofs.Common.{ℕ, ◌≡◌, ◌+◌, ◌∷◌, ◌++◌, ◌∙◌, [], zero, suc, List, None, cond, map, length, refl, ap, sym, subst, arith, count_by, append-nil, append_assoc, IsAscii}
 use Rattle.std.proofs.lemmas.List.{map-append}
-use Rattle.std.proofs.lemmas.List.Sums.{sum_by-append, sum_by-cons}
+use Rattle.std.proofs.lemmas.List.Sums.{sum_by-append}
 use Rattle.std.proofs.lemmas.Str.{IsAscii-append}
 use Rattle.std.proofs.lemmas.Str.Ascii.{IsAscii-nil, IsAscii-cons, IsAscii-push}
 use Rattle.starlark_lexer.specs.Items.{Lexeme, newline, indent, dedent, keyword_pass, dedents, Item, item}
@@ -9,6 +9,7 @@ use Rattle.starlark_lexer.specs.Lex.{Lex, start}
 use Rattle.starlark_lexer.specs.Joining.{is_indent, is_dedent, dedent_item}
 use Rattle.starlark_grammar.specs.Language.{bare, without_comments}
 use Rattle.starlark_grammar.proofs.Uncommented.{without_append, without_dedents}
+use Rattle.starlark_cutting.proofs.KeptTracks.{dedents_count, dedents_indents}
 use Rattle.starlark_cutting.specs.Cutting.{indent_item, blanks_of, IsClosedOff, IsIndented, IsFilled, IsFilledBehind, IsFinished}
 use Rattle.starlark_completion.specs.Ending.{copies, Goes}
 use Rattle.starlark_completion.specs.GoesOn.{CanGoOn}
@@ -46,14 +47,6 @@ indents_there front w q = count_bare is_indent w ∙ ap (count_by is_indent) (sy
 
 pub dedents_there : (front w : List Item) → bare (without_comments front) ≡ bare w → count_by dedent_item w ≡ count_by dedent_item front
 dedents_there front w q = count_bare is_dedent w ∙ ap (count_by is_dedent) (sym q) ∙ sym (count_bare is_dedent (without_comments front)) ∙ dedents_kept front
-
-no_indents : (p k : ℕ) → count_by indent_item (dedents p k) ≡ 0
-no_indents p zero = refl
-no_indents p (suc k) = no_indents p k
-
-all_dedents : (p k : ℕ) → count_by dedent_item (dedents p k) ≡ k
-all_dedents p zero = refl
-all_dedents p (suc k) = sum_by-cons (λ (y : Item). cond (dedent_item y) 1 0) (item p dedent p) (dedents p k) ∙ (let e : 1 + count_by dedent_item (dedents p k) ≡ suc k = omega (arith, all_dedents p k) in e)
 
 -- the text behind which some more goes on
 pub goes_behind : (u more : List ℕ) (w : List Item) → IsAscii more → CanGoOn (u ++ more) w → CanGoOn u w
@@ -97,7 +90,7 @@ module _ (u : List ℕ) (front w : List Item) (depth : ℕ) (same : bare (withou
       let bytes = blanks_of c.spaces ++ 112 ∷ 97 ∷ 115 ∷ 115 ∷ 10 ∷ [] in
       let i : count_by indent_item (front ++ them) ≡ count_by indent_item front + count_by indent_item them = sum_by-append (λ (y : Item). cond (indent_item y) 1 0) front them in
       let d : count_by dedent_item (front ++ them) ≡ count_by dedent_item front + count_by dedent_item them = sum_by-append (λ (y : Item). cond (dedent_item y) 1 0) front them in
-      let k : depth ≡ f.more + c.count = omega (arith, indents_there front w same, dedents_there front w same, blocks, c.layout, i, d, no_indents (length u) f.more, all_dedents (length u) f.more) in
+      let k : depth ≡ f.more + c.count = omega (arith, indents_there front w same, dedents_there front w same, blocks, c.layout, i, d, dedents_indents (length u) f.more, dedents_count (length u) f.more) in
       let tail : bare (without_comments line) ≡ keyword_pass ∷ newline ∷ newline ∷ copies c.count dedent = ap (λ xs. keyword_pass ∷ newline ∷ newline ∷ xs) (ending (at + 4 + 1) c.count) in
       behind bytes (them ++ line) (copies f.more dedent ++ (keyword_pass ∷ newline ∷ newline ∷ copies c.count dedent)) (IsAscii-append (blanks_of c.spaces) (112 ∷ 97 ∷ 115 ∷ 115 ∷ 10 ∷ []) (blanks_ascii c.spaces) pass_ascii)
       (subst (λ xs. Lex start (u ++ bytes) (record { items = xs; fault = None })) (append_assoc front them line) c.lex)

@@ -4,7 +4,7 @@ mod KeptLines
 mod KeptRemarks
 mod KeptMoves
 mod KeptSteps
-mod KeptTracks
+pub mod KeptTracks
 mod KeptFinal
 mod KeptCut
 mod KeptTexts

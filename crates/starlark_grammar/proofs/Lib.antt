@@ -18,6 +18,7 @@ pub mod Closing
 pub mod Meeting
 pub mod Lacking
 pub mod Dead
+pub mod Dedents
 pub mod Behind
 pub mod Refusals
 pub mod Decided

@@ -2,7 +2,7 @@
 use Rattle.std.proofs.Common.{◌≡◌, [], refl, Some, None}
 use Rattle.std.specs.Prelude.{codes}
 use Rattle.starlark_parts.specs.Kept.{inserts, replaces, removes, moves}
-use Rattle.starlark_script.specs.Script.{front, nothing, no_command, asking, editing, command_of, number_of}
+use Rattle.starlark_script.specs.Script.{front, no_command, asking, editing, command_of, number_of}
 
 insert_with_bytes : front (codes "insert 0 6\nx = 1\noutline\n") ≡ asking (editing (inserts 0 (codes "x = 1\n"))) (codes "outline\n")
 unfolding front
@@ -19,10 +19,6 @@ too_few_bytes = refl
 no_line_end : front (codes "outline") ≡ no_command
 unfolding front
 no_line_end = refl
-
-nothing_left : front [] ≡ nothing
-unfolding front
-nothing_left = refl
 
 greatest_number : number_of (codes "4294967295") ≡ Some 4294967295
 greatest_number = refl
