@@ -13,8 +13,8 @@ use crate::make::Make;
 use crate::rename::Rename;
 use starlark_ast::ast::{
     Argument, ArgumentP, AssignTarget, AssignTargetP, AstArgument, AstAssignTarget, AstExpr,
-    AstNoPayload, AstParameter, AstString, AstTypeExpr, Clause, ClauseP, Expr, ExprP, FStringP,
-    ForClause, LambdaP, Parameter, ParameterP, TypeExpr,
+    AstNoPayload, AstParameter, AstString, AstTypeExpr, BinOp, Clause, ClauseP, Expr, ExprP,
+    FStringP, ForClause, LambdaP, Parameter, ParameterP, TypeExpr,
 };
 use starlark_place::pos::{Span, Spanned};
 use std::alloc::{AllocError, Global};
@@ -52,11 +52,7 @@ pub(crate) fn expression<M: Make, R: Rename>(
         ExprP::Minus(inner) => Ok(M::minus(boxed::<M, R>(alloc, by, inner)?)),
         ExprP::Plus(inner) => Ok(M::plus(boxed::<M, R>(alloc, by, inner)?)),
         ExprP::BitNot(inner) => Ok(M::bit_not(boxed::<M, R>(alloc, by, inner)?)),
-        ExprP::Op(left, op, right) => {
-            let left = boxed::<M, R>(alloc, by, left)?;
-            let right = boxed::<M, R>(alloc, by, right)?;
-            M::operation(alloc, left, *op, right, by.name(*op), span)
-        }
+        ExprP::Op(left, op, right) => operation::<M, R>(alloc, by, left, *op, right, span),
         ExprP::If(parts) => Ok(M::choice(three::<M, R>(alloc, by, parts)?)),
         ExprP::List(xs) => Ok(M::list(items::<M, R>(alloc, by, xs)?)),
         ExprP::Dict(xs) => Ok(M::dict(entries::<M, R>(alloc, by, xs)?)),
@@ -73,6 +69,23 @@ pub(crate) fn expression<M: Make, R: Rename>(
             Ok(M::f_string(format, fields, inner.span))
         }
     }
+}
+
+// an operator between its sides, at their place
+#[cycle(again)]
+fn operation<M: Make, R: Rename>(
+    alloc: Global,
+    by: &R,
+    left: &AstExpr,
+    op: BinOp,
+    right: &AstExpr,
+    span: Span,
+) -> Result<M::Expr, AllocError>
+    ensures { IfOk result (λ y. M.expr_means y span ≡ replaced (R.renames by.now) (tree.operation (expr_at left.now) op (expr_at right.now) span)) }
+{
+    let left = boxed::<M, R>(alloc, by, left)?;
+    let right = boxed::<M, R>(alloc, by, right)?;
+    M::operation(alloc, left, op, right, by.name(op), span)
 }
 
 /// The same with its place.

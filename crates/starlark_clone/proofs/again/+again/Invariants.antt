@@ -10,6 +10,9 @@ use Rattle.starlark_clone.proofs.again.+again.Given as goal
 abbrev pub decreases-expression : goal.decreases-expression
 decreases-expression g l = size (expr_view l.x.now nowhere)
 
+abbrev pub decreases-operation : goal.decreases-operation
+decreases-operation g l = 3 + (size (expr_at l.left.now) + size (expr_at l.right.now))
+
 abbrev pub decreases-spanned : goal.decreases-spanned
 decreases-spanned g l = 1 + size (expr_at l.x.now)
 
