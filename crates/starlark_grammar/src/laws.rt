@@ -68,8 +68,9 @@ pub fn nested_places()
     ensures { (u : List Item) (raw : Statement) → InOrder 0 u → Derives u raw → StatementIn (stretch 0 (last_end 0 u)) raw }
 {}
 
-/// Signs are equal where they are one, and a clone is the sign itself.
+/// Signs are equal where they are one, and a clone is always made and is the sign itself.
 pub fn signs_compare()
     ensures equal { (x y : Sign) → (⟦<Sign as PartialEq>⟧.eq x y ≡ true) ↔ (x ≡ y) }
     ensures cloned { (x y : Sign) → ⟦<Sign as Clone>⟧.is_clone x y → y ≡ x }
+    ensures always { (x : Sign) → ⟦<Sign as Clone>⟧.is_infallible x }
 {}

@@ -61,10 +61,12 @@ pub fn same_lines()
     joined_outline();
 }
 
-/// Words and items of outlines are equal where they say the same, and a clone is the same.
+/// Words and items of outlines are equal where they say the same, and a clone is always made and is the same.
 pub fn items_compare()
     ensures words_equal { (x y : Word) → (⟦<Word as PartialEq>⟧.eq x y ≡ true) ↔ (x ≡ y) }
     ensures words_cloned { (x y : Word) → ⟦<Word as Clone>⟧.is_clone x y → y ≡ x }
+    ensures words_always { (x : Word) → ⟦<Word as Clone>⟧.is_infallible x }
     ensures items_equal { (x y : OutlineItem) → (⟦<OutlineItem as PartialEq>⟧.eq x y ≡ true) ↔ (x ≡ y) }
     ensures items_cloned { (x y : OutlineItem) → ⟦<OutlineItem as Clone>⟧.is_clone x y → y ≡ x }
+    ensures items_always { (x : OutlineItem) → ⟦<OutlineItem as Clone>⟧.is_infallible x }
 {}

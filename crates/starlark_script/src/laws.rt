@@ -34,10 +34,12 @@ pub fn inserted_then_removed()
     ensures { (texts : List (List ℕ)) (k : ℕ) (text : List ℕ) → k ≤ length texts → edited (edited texts (inserts k text)) (removes k) ≡ texts }
 {}
 
-/// Ends and faults of runs are equal where they are one, and a clone is the same.
+/// Ends and faults of runs are equal where they are one, and a clone is always made and is the same.
 pub fn ends_compare()
     ensures ends_equal { (x y : End) → (⟦<End as PartialEq>⟧.eq x y ≡ true) ↔ (x ≡ y) }
     ensures ends_cloned { (x y : End) → ⟦<End as Clone>⟧.is_clone x y → y ≡ x }
+    ensures ends_always { (x : End) → ⟦<End as Clone>⟧.is_infallible x }
     ensures faults_equal { (x y : RunFault) → (⟦<RunFault as PartialEq>⟧.eq x y ≡ true) ↔ (x ≡ y) }
     ensures faults_cloned { (x y : RunFault) → ⟦<RunFault as Clone>⟧.is_clone x y → y ≡ x }
+    ensures faults_always { (x : RunFault) → ⟦<RunFault as Clone>⟧.is_infallible x }
 {}
