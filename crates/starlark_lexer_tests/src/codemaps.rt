@@ -102,6 +102,20 @@ fn resolved_files(rt: HostRuntime) {
     equal(&rt, line.line, 0);
 }
 
+#[test]
+fn files_without_a_name(rt: HostRuntime) {
+    let m = Maker::new(&rt, rt.alloc());
+    let map = m.map_of(u64::MAX, "", "ab\ncd\n");
+    holds(&rt, map.holds(span(3, 5)));
+    let place = m.made(map.file_span(span(3, 5)));
+    m.prints(&place, ":2:1-3");
+    let again = m.made(place.as_ref().to_file_span());
+    holds(&rt, again == place);
+    let resolved = m.made(place.resolve(rt.alloc()));
+    m.prints(&resolved, ":2:1-3");
+    m.prints(&m.made(resolved.begin_file_line(rt.alloc())), ":2");
+}
+
 // the order and the hash of two file spans, and whether they are equal
 fn compared(a: &FileSpan, b: &FileSpan) -> (bool, bool, bool) {
     let mut first = DefaultHasher::new();
@@ -138,6 +152,7 @@ fn maps_by_id(rt: HostRuntime) {
     let mut maps = CodeMaps::new(rt.alloc());
     m.made(maps.add(&m.map_of(7, "f", "")));
     m.made(maps.add(&m.map_of(7, "g", "")));
+    m.made(maps.add(&m.map_of(9, "i", "")));
     let mut all = CodeMaps::new(rt.alloc());
     m.made(all.add(&m.map_of(8, "h", "")));
     m.made(all.add_all(&maps));
@@ -149,5 +164,6 @@ fn maps_by_id(rt: HostRuntime) {
         equal(&rt, name, "f");
     }
     holds(&rt, all.get(CodeMapId(8)).is_some());
+    holds(&rt, all.get(CodeMapId(9)).is_some());
     holds(&rt, maps.get(CodeMapId(8)).is_none());
 }

@@ -7,10 +7,12 @@ use starlark_place::pos::{Span, Spanned};
 use starlark_place::resolved::{ResolvedPos, ResolvedSpan};
 
 /// Lines and columns of a span's begin and end, all from 0, and what it prints.
-static PRINTED: [(usize, usize, usize, usize, &str); 4] = [
+static PRINTED: [(usize, usize, usize, usize, &str); 6] = [
     (0, 4, 0, 4, "1:5"),
     (0, 8, 0, 9, "1:9-10"),
     (1, 0, 2, 7, "2:1-3:8"),
+    (0, 9, 0, 8, "1:10-9"),
+    (2, 7, 1, 0, "3:8-2:1"),
     (
         usize::MAX,
         usize::MAX,
