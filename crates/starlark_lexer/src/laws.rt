@@ -2,6 +2,10 @@
 
 ghost use Rattle.std.specs.Prelude.{◌*◌, ◌+◌, ◌≡◌, ◌≤◌, ◌↔◌, List, None, count_by, length, map, true, ℕ};
 ghost use Rattle.std.specs.Str.{IsUtf8};
+ghost use Rattle.std.specs.String.{string_bytes};
+ghost use Rattle.std.specs.declared.alloc.Global.{Global};
+ghost use Rattle.std.specs.declared.string.String.{String};
+ghost use Rattle.std.specs.declared.vec.Vec.{Vec};
 ghost use Rattle.starlark_lexer.specs.declared.dialect.TheConstants.Dialect.{AllOptionsInternal, Extended, Standard};
 ghost use Rattle.starlark_lexer.specs.declared.words.TheConstants.{KEYWORDS, OPERATORS, RESERVED};
 ghost use Rattle.starlark_lexer.specs.Dialects.{all_options, extended, standard};
@@ -11,11 +15,12 @@ ghost use Rattle.starlark_lexer.specs.Joining.{IsClosed, IsEven, IsJoined, IsLai
 ghost use Rattle.starlark_lexer.specs.Lex.{Lex, start};
 ghost use Rattle.starlark_lexer.specs.Order.{AreFirm, Covers, HoldsEach, InOrder};
 ghost use Rattle.starlark_lexer.specs.Words.{keywords, operators, reserved};
+ghost use Rattle.starlark_lexer.specs.declared.token.Token.TheVariants as token;
 
 use crate::dialect::{Dialect, DialectTypes};
 use crate::format::{EscapeCurlyBrace, FormatConv, FormatError, FormatErrorKind, FormatToken};
 use crate::number::TokenIntError;
-use crate::token::{FStringConv, FStringQuote, LexemeError, TokenInt};
+use crate::token::{FStringConv, FStringQuote, LexemeError, Token, TokenInt};
 
 /// A text has at most one reading.
 pub fn one_reading()
@@ -96,6 +101,18 @@ pub fn choices_compare()
 /// Integers are equal where all that they say of their literal is.
 pub fn integers_compare()
     ensures { (x y : TokenInt) → (⟦<TokenInt as PartialEq>⟧.eq x y ≡ true) ↔ (number_of x ≡ number_of y) }
+{}
+
+/// Tokens of one kind that hold something are equal where they hold the same.
+pub fn tokens_compare()
+    ensures comments { (x y : String Global) → (⟦<Token as PartialEq>⟧.eq (token.Comment x) (token.Comment y) ≡ true) ↔ (string_bytes x ≡ string_bytes y) }
+    ensures identifiers { (x y : String Global) → (⟦<Token as PartialEq>⟧.eq (token.Identifier x) (token.Identifier y) ≡ true) ↔ (string_bytes x ≡ string_bytes y) }
+    ensures integers { (x y : TokenInt) → (⟦<Token as PartialEq>⟧.eq (token.Int x) (token.Int y) ≡ true) ↔ (number_of x ≡ number_of y) }
+    ensures floats { (x y : String Global) → (⟦<Token as PartialEq>⟧.eq (token.Float x) (token.Float y) ≡ true) ↔ (string_bytes x ≡ string_bytes y) }
+    ensures strings { (x y : String Global) → (⟦<Token as PartialEq>⟧.eq (token.String x) (token.String y) ≡ true) ↔ (string_bytes x ≡ string_bytes y) }
+    ensures bytes { (x y : Vec ℕ Global) → (⟦<Token as PartialEq>⟧.eq (token.Bytes x) (token.Bytes y) ≡ true) ↔ (x.items ≡ y.items) }
+    ensures texts { (x y : String Global) → (⟦<Token as PartialEq>⟧.eq (token.FStringText x) (token.FStringText y) ≡ true) ↔ (string_bytes x ≡ string_bytes y) }
+    ensures starts { (x y : FStringQuote) → (⟦<Token as PartialEq>⟧.eq (token.FStringStart x) (token.FStringStart y) ≡ true) ↔ (x ≡ y) }
 {}
 
 /// Tokens and errors of format strings are equal where they say the same of the same text.
