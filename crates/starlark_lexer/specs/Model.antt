@@ -1,5 +1,5 @@
 -- The model of `Lexer`, and what a call of `next` answers.
-use Rattle.std.specs.Prelude.{[], ◌≡◌, ◌≤◌, ◌-◌, ℕ, length, Option, Some, None, Result, Ok, Err}
+use Rattle.std.specs.Prelude.{[], ◌≡◌, ◌≤◌, ◌-◌, ℕ, length, Option, Some, None, IfNone, Result, Ok, Err}
 use Rattle.starlark_place.specs.Place.{File, extent, file_place}
 use Rattle.starlark_place.specs.Diagnostic.{inner_of, span_of, frames_of}
 use Rattle.starlark_place.specs.declared.diagnostic.WithDiagnostic.{WithDiagnostic}
@@ -83,3 +83,5 @@ pub record IsNext (old : Reading) (item : Option (Result (ℕ × Token × ℕ) (
   pub counts : Counts old item new
   pub size : new.size ≡ old.size
   pub file : new.file ≡ old.file
+  -- behind the end a call changes nothing
+  pub idle : IfNone item (new ≡ old)

@@ -1,6 +1,6 @@
 //! The lexer, which hands out one lexeme at a time.
 
-ghost use Rattle.std.specs.Prelude.{◌≡◌, ◌≤◌, ◌+◌, ◌*◌, length};
+ghost use Rattle.std.specs.Prelude.{◌≡◌, ◌≤◌, ◌+◌, ◌*◌, length, IfNone};
 ghost use Rattle.starlark_lexer.specs.Lex.{Lex, start};
 ghost use Rattle.starlark_lexer.specs.Model.{Counts, Gives, Within};
 ghost use Rattle.starlark_lexer.specs.Parts.{IsStretch};
@@ -85,7 +85,7 @@ impl<'a> Lexer<'a> {
     }
 
     /// The next lexeme with its beginning and end in bytes, or the fault, or `Memory` where memory runs out.
-    /// After the first `Err` it answers `None` for ever, as behind the last lexeme.
+    /// After the first `Err` it answers `None` for ever, as behind the last lexeme. Such a call changes nothing.
     pub fn next(&mut self) -> Option<Result<(usize, Token, usize), EvalException>>
         ensures gives { Gives self.old.file self.old.left result self.new.left }
         ensures within { Within self.old.size result }
@@ -93,6 +93,7 @@ impl<'a> Lexer<'a> {
         ensures size { self.new.size ≡ self.old.size }
         ensures fits { self.new.size ≤ 4294967295 }
         ensures file { self.new.file ≡ self.old.file }
+        ensures idle { IfNone result (self.new ≡ self.old) }
     {
         match next(&mut self.parts)? {
             Ok(item) => Some(Ok(item)),

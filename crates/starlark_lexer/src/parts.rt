@@ -1,6 +1,6 @@
 //! A lexer's parts, and one call of it.
 
-ghost use Rattle.std.specs.Prelude.{◌≡◌, ◌<◌, ◌≤◌, ◌+◌, ◌*◌, length, drop, if◌then◌else◌, true, false, Some};
+ghost use Rattle.std.specs.Prelude.{◌≡◌, ◌<◌, ◌≤◌, ◌+◌, ◌*◌, length, drop, if◌then◌else◌, true, false, Some, IfNone};
 ghost use Rattle.starlark_lexer.specs.Classes.{begins};
 ghost use Rattle.starlark_lexer.specs.Items.{with_fault};
 ghost use Rattle.starlark_lexer.specs.Scan.{in_text};
@@ -437,6 +437,7 @@ pub(crate) fn next(parts: &mut Parts) -> Option<Answer>
     ensures moves { Moves parts.old parts.new }
     ensures paid { IsPaid parts.new }
     ensures reaches { Reaches result parts.new.state.place }
+    ensures idle { IfNone result (parts.new ≡ parts.old) }
 {
     if parts.pending > 0 {
         parts.pending -= 1;
