@@ -163,9 +163,7 @@ impl<P: AstPayload> VisitChildren<AstStmtP<P>, AstExprP<P>> for StmtP<P> {
         v: &mut V,
     ) -> Result<(), E> {
         let alone = Alone { statement: self };
-        if let Err(e) = expr_nodes(&alone, v) {
-            return Err(e);
-        }
+        expr_nodes(&alone, v)?;
         stmt_nodes(self, v)
     }
 }
@@ -177,9 +175,7 @@ impl<P: AstPayload> VisitChildren<AstStmtP<P>, AstExprP<P>> for DefP<P> {
         &self,
         v: &mut V,
     ) -> Result<(), E> {
-        if let Err(e) = expr_nodes(self, v) {
-            return Err(e);
-        }
+        expr_nodes(self, v)?;
         v.at_stmt(&self.body)
     }
 }

@@ -117,9 +117,7 @@ pub(crate) fn two<T, E, F: FnMut(&T) -> Result<(), E>>(x: &T, y: &T, f: &mut F) 
     requires { Takes lent F.FnMut f.old (x.now ∷ y.now ∷ []) }
     ensures { StopsAtErr lent F.FnMut f.old (x.now ∷ y.now ∷ []) result f.new }
 {
-    if let Err(e) = f(x) {
-        return Err(e);
-    }
+    f(x)?;
     f(y)
 }
 
@@ -127,9 +125,7 @@ fn three<T, E, F: FnMut(&T) -> Result<(), E>>(x: &T, y: &T, z: &T, f: &mut F) ->
     requires { Takes lent F.FnMut f.old (x.now ∷ y.now ∷ z.now ∷ []) }
     ensures { StopsAtErr lent F.FnMut f.old (x.now ∷ y.now ∷ z.now ∷ []) result f.new }
 {
-    if let Err(e) = f(x) {
-        return Err(e);
-    }
+    f(x)?;
     two(y, z, f)
 }
 
@@ -162,9 +158,7 @@ pub(crate) fn each<T, E, F: FnMut(&T) -> Result<(), E>>(xs: &[T], f: &mut F) -> 
 {
     let mut rest = xs;
     while let Some((x, tail)) = rest.split_first() {
-        if let Err(e) = f(x) {
-            return Err(e);
-        }
+        f(x)?;
         rest = tail;
     }
     Ok(())
@@ -176,9 +170,7 @@ fn pairs<T, E, F: FnMut(&T) -> Result<(), E>>(xs: &[(T, T)], f: &mut F) -> Resul
 {
     let mut rest = xs;
     while let Some((x, tail)) = rest.split_first() {
-        if let Err(e) = two(&x.0, &x.1, f) {
-            return Err(e);
-        }
+        two(&x.0, &x.1, f)?;
         rest = tail;
     }
     Ok(())
@@ -193,9 +185,7 @@ fn arguments<P: AstPayload, E, F: FnMut(&AstExprP<P>) -> Result<(), E>>(
 {
     let mut rest = xs;
     while let Some((x, tail)) = rest.split_first() {
-        if let Err(e) = f(x.node.expr()) {
-            return Err(e);
-        }
+        f(x.node.expr())?;
         rest = tail;
     }
     Ok(())
@@ -210,9 +200,7 @@ pub(crate) fn parameters<P: AstPayload, E, F: FnMut(&AstExprP<P>) -> Result<(), 
 {
     let mut rest = xs;
     while let Some((x, tail)) = rest.split_first() {
-        if let Err(e) = x.node.lend_exprs(f) {
-            return Err(e);
-        }
+        x.node.lend_exprs(f)?;
         rest = tail;
     }
     Ok(())
@@ -227,9 +215,7 @@ fn clauses<P: AstPayload, E, F: FnMut(&AstExprP<P>) -> Result<(), E>>(
 {
     let mut rest = xs;
     while let Some((x, tail)) = rest.split_first() {
-        if let Err(e) = x.lend_exprs(f) {
-            return Err(e);
-        }
+        x.lend_exprs(f)?;
         rest = tail;
     }
     Ok(())
@@ -246,9 +232,7 @@ pub(crate) fn target<P: AstPayload, E, F: FnMut(&AstExprP<P>) -> Result<(), E>>(
     match whole {
         AssignTargetP::Tuple(xs) => {
             for x in xs {
-                if let Err(e) = target(&x.node, f) {
-                    return Err(e);
-                }
+                target(&x.node, f)?;
             }
             Ok(())
         }
@@ -282,9 +266,7 @@ impl<P: AstPayload> VisitExpr<P> for ParameterP<P> {
         match self {
             ParameterP::Slash => Ok(()),
             ParameterP::Normal(_, ty, default) => {
-                if let Err(e) = maybe_type(ty, f) {
-                    return Err(e);
-                }
+                maybe_type(ty, f)?;
                 maybe(default, f)
             }
             ParameterP::NoArgs => Ok(()),
@@ -314,9 +296,7 @@ impl<P: AstPayload> VisitExpr<P> for ForClauseP<P> {
     ghost parts = { for_clause_places };
 
     fn lend_exprs<E, F: FnMut(&AstExprP<P>) -> Result<(), E>>(&self, f: &mut F) -> Result<(), E> {
-        if let Err(e) = target(&self.var.node, f) {
-            return Err(e);
-        }
+        target(&self.var.node, f)?;
         one(&self.over, f)
     }
 }
@@ -340,57 +320,36 @@ impl<P: AstPayload> VisitExpr<P> for ExprP<P> {
             ExprP::Tuple(xs) => each(xs, f),
             ExprP::Dot(x, _) => boxed(x, f),
             ExprP::Call(x, args) => {
-                if let Err(e) = f(x) {
-                    return Err(e);
-                }
+                f(x)?;
                 arguments(&args.args, f)
             }
             ExprP::Index(x) => two(&x.0, &x.1, f),
             ExprP::Index2(x) => three(&x.0, &x.1, &x.2, f),
             ExprP::Slice(x, a, b, c) => {
-                if let Err(e) = f(x) {
-                    return Err(e);
-                }
-                if let Err(e) = maybe(a, f) {
-                    return Err(e);
-                }
-                if let Err(e) = maybe(b, f) {
-                    return Err(e);
-                }
+                f(x)?;
+                maybe(a, f)?;
+                maybe(b, f)?;
                 maybe(c, f)
             }
             ExprP::Identifier(_) => Ok(()),
             ExprP::Lambda(x) => {
-                if let Err(e) = parameters(&x.params, f) {
-                    return Err(e);
-                }
+                parameters(&x.params, f)?;
                 boxed(&x.body, f)
             }
             ExprP::Literal(_) => Ok(()),
-            ExprP::Not(x) => boxed(x, f),
-            ExprP::Minus(x) => boxed(x, f),
-            ExprP::Plus(x) => boxed(x, f),
-            ExprP::BitNot(x) => boxed(x, f),
+            ExprP::Not(x) | ExprP::Minus(x) | ExprP::Plus(x) | ExprP::BitNot(x) => boxed(x, f),
             ExprP::Op(x, _, y) => operands(x, y, f),
             ExprP::If(x) => three(&x.0, &x.1, &x.2, f),
             ExprP::List(xs) => each(xs, f),
             ExprP::Dict(xs) => pairs(xs, f),
             ExprP::ListComprehension(x, first, rest) => {
-                if let Err(e) = first.lend_exprs(f) {
-                    return Err(e);
-                }
-                if let Err(e) = clauses(rest, f) {
-                    return Err(e);
-                }
+                first.lend_exprs(f)?;
+                clauses(rest, f)?;
                 boxed(x, f)
             }
             ExprP::DictComprehension(x, first, rest) => {
-                if let Err(e) = first.lend_exprs(f) {
-                    return Err(e);
-                }
-                if let Err(e) = clauses(rest, f) {
-                    return Err(e);
-                }
+                first.lend_exprs(f)?;
+                clauses(rest, f)?;
                 two(&x.0, &x.1, f)
             }
             ExprP::FString(x) => each(&x.node.expressions, f),

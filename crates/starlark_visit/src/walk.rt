@@ -175,12 +175,8 @@ fn assign<P: AstPayload, E, F: FnMut(&AstExprP<P>) -> Result<(), E>>(
     requires { Takes lent F.FnMut f.old (assign_places x.now) }
     ensures { StopsAtErr lent F.FnMut f.old (assign_places x.now) result f.new }
 {
-    if let Err(e) = target(&x.lhs.node, f) {
-        return Err(e);
-    }
-    if let Err(e) = held_type(&x.ty, f) {
-        return Err(e);
-    }
+    target(&x.lhs.node, f)?;
+    held_type(&x.ty, f)?;
     one(&x.rhs, f)
 }
 
@@ -191,9 +187,7 @@ fn for_head<P: AstPayload, E, F: FnMut(&AstExprP<P>) -> Result<(), E>>(
     requires { Takes lent F.FnMut f.old (for_places x.now) }
     ensures { StopsAtErr lent F.FnMut f.old (for_places x.now) result f.new }
 {
-    if let Err(e) = target(&x.var.node, f) {
-        return Err(e);
-    }
+    target(&x.var.node, f)?;
     one(&x.over, f)
 }
 
@@ -201,9 +195,7 @@ impl<P: AstPayload> VisitExpr<P> for DefP<P> {
     ghost parts = { def_places };
 
     fn lend_exprs<E, F: FnMut(&AstExprP<P>) -> Result<(), E>>(&self, f: &mut F) -> Result<(), E> {
-        if let Err(e) = parameters(&self.params, f) {
-            return Err(e);
-        }
+        parameters(&self.params, f)?;
         maybe_type(&self.return_type, f)
     }
 }
@@ -224,9 +216,7 @@ fn own<P: AstPayload, E, F: FnMut(&AstExprP<P>) -> Result<(), E>>(
         StmtP::Expression(x) => one(x, f),
         StmtP::Assign(x) => assign(x, f),
         StmtP::AssignModify(lhs, _, rhs) => {
-            if let Err(e) = target(&lhs.node, f) {
-                return Err(e);
-            }
+            target(&lhs.node, f)?;
             boxed(rhs, f)
         }
         StmtP::Statements(_) => Ok(()),
@@ -246,23 +236,17 @@ fn outer<P: AstPayload, E, F: FnMut(&AstExprP<P>) -> Result<(), E>>(
     requires { Takes lent F.FnMut f.old (outer_exprs whole.now) }
     ensures { StopsAtErr lent F.FnMut f.old (outer_exprs whole.now) result f.new }
 {
-    if let Err(e) = own(whole, f) {
-        return Err(e);
-    }
+    own(whole, f)?;
     match whole {
         StmtP::Statements(xs) => {
             for x in xs {
-                if let Err(e) = outer(&x.node, f) {
-                    return Err(e);
-                }
+                outer(&x.node, f)?;
             }
             Ok(())
         }
         StmtP::If(_, x) => outer(&x.node, f),
         StmtP::IfElse(_, x) => {
-            if let Err(e) = outer(&x.0.node, f) {
-                return Err(e);
-            }
+            outer(&x.0.node, f)?;
             outer(&x.1.node, f)
         }
         StmtP::For(x) => outer(&x.body.node, f),

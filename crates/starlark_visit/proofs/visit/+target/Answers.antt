@@ -1,6 +1,7 @@
 use Rattle.std.proofs.Common.{rules, ◌≡◌, refl, sym, ap, ◌∙◌, flat_map, take, drop, length, ◌+◌, arith}
 use Rattle.std.proofs.Math.Seq.{take-length}
 use Rattle.starlark_ast.specs.Calls.{lent}
+use Rattle.starlark_visit.proofs.GoesOn.{out_err}
 use Rattle.starlark_visit.proofs.Nested.{lists_fall}
 use Rattle.starlark_visit.proofs.Taking.{front_taken, more_taken, rest_taken, takes_at}
 use Rattle.starlark_visit.proofs.Until.{until_none, until_at, until_more, until_front}
@@ -10,13 +11,13 @@ use Rattle.starlark_visit.proofs.visit.+target.Goals as goal
 
 pub loop-x-preserved : goal.loop-x-preserved
 loop-x-preserved g t c =
-    (rest_taken lent g.F.FnMut (target_places c.x-item.result.node) (flat_map (λ x. target_places x.node) (drop (c.loop-x.x-index + 1) c.deref-x-items.result.now)) (more_taken lent g.F.FnMut (λ x. target_places x.node) c.deref-x-items.result.now c.loop-x.x-index c.x-item.result (search rules) c.x-item.is c.loop-x.invariant.0) c.target.ensures c.in_default.is, until_more lent g.F.FnMut (λ x. target_places x.node) c.deref-x-items.result.now c.loop-x.x-index c.x-item.result (search rules) c.x-item.is c.loop-x.invariant.1 c.target.ensures c.in_default.is)
+    (rest_taken lent g.F.FnMut (target_places c.x-item.result.node) (flat_map (λ x. target_places x.node) (drop (c.loop-x.x-index + 1) c.deref-x-items.result.now)) (more_taken lent g.F.FnMut (λ x. target_places x.node) c.deref-x-items.result.now c.loop-x.x-index c.x-item.result (search rules) c.x-item.is c.loop-x.invariant.0) c.target.ensures c.in_ok-target-in-Tuple.was, until_more lent g.F.FnMut (λ x. target_places x.node) c.deref-x-items.result.now c.loop-x.x-index c.x-item.result (search rules) c.x-item.is c.loop-x.invariant.1 c.target.ensures c.in_ok-target-in-Tuple.was)
 
-pub returns-in-Err : goal.returns-in-Err
-returns-in-Err g t c =
+pub returns-in_err-target-in-Tuple : goal.returns-in_err-target-in-Tuple
+returns-in_err-target-in-Tuple g t c =
     let all = c.deref-x-items.result.now in
     until_at lent g.F.FnMut (ap target_places c.in-Tuple.is ∙ target_places-Tuple c.in-Tuple.xs ∙ ap (flat_map (λ x. target_places x.node)) (sym c.deref-x-items.ensures.value))
-    (until_front lent g.F.FnMut (λ x. target_places x.node) all (c.loop-x.x-index + 1) (until_more lent g.F.FnMut (λ x. target_places x.node) all c.loop-x.x-index c.x-item.result (search rules) c.x-item.is c.loop-x.invariant.1 c.target.ensures refl) c.in-Err.is refl)
+    (until_front lent g.F.FnMut (λ x. target_places x.node) all (c.loop-x.x-index + 1) (until_more lent g.F.FnMut (λ x. target_places x.node) all c.loop-x.x-index c.x-item.result (search rules) c.x-item.is c.loop-x.invariant.1 c.target.ensures refl) c.in_err-target-in-Tuple.was (out_err c.from_residual.result c.from_residual.ensures.1))
 
 pub returns-after-loop-x : goal.returns-after-loop-x
 returns-after-loop-x g t c =

@@ -1,19 +1,20 @@
 use Rattle.std.proofs.lemmas.List.{nil_from_length}
 use Rattle.std.proofs.Common.{refl}
 use Rattle.starlark_ast.specs.Calls.{lent}
+use Rattle.starlark_visit.proofs.GoesOn.{out_err}
 use Rattle.starlark_visit.proofs.Taking.{first_taken, next_taken, takes_at}
 use Rattle.starlark_visit.proofs.Until.{until_none, until_ok, until_err, until_at}
 use Rattle.starlark_visit.proofs.visit.each.Goals as goal
 
-pub returns-in-Err : goal.returns-in-Err
-returns-in-Err g c = c.loop-x.invariant.1 _ _ (until_at lent g.F.FnMut (c.in-Some.ensures.cases.0) (until_err lent g.F.FnMut c.f.ensures c.in-Err.is refl refl))
+pub returns-in_err-f : goal.returns-in_err-f
+returns-in_err-f g c = c.loop-x.invariant.1 _ _ (until_at lent g.F.FnMut (c.in-Some.ensures.cases.0) (until_err lent g.F.FnMut c.f.ensures c.in_err-f.was (out_err c.from_residual.result c.from_residual.ensures.1) refl))
 
 pub f-requires : goal.f-requires
 f-requires g c = first_taken lent g.F.FnMut (takes_at lent g.F.FnMut c.in-Some.ensures.cases.0 c.loop-x.invariant.0) refl
 
 pub loop-x-preserved : goal.loop-x-preserved
 loop-x-preserved g c =
-    (next_taken lent g.F.FnMut (takes_at lent g.F.FnMut c.in-Some.ensures.cases.0 c.loop-x.invariant.0) c.f.ensures c.in_default-f.is refl, λ r last h. c.loop-x.invariant.1 r last (until_at lent g.F.FnMut (c.in-Some.ensures.cases.0) (until_ok lent g.F.FnMut c.f.ensures c.in_default-f.is refl h)))
+    (next_taken lent g.F.FnMut (takes_at lent g.F.FnMut c.in-Some.ensures.cases.0 c.loop-x.invariant.0) c.f.ensures c.in_ok-f.was refl, λ r last h. c.loop-x.invariant.1 r last (until_at lent g.F.FnMut (c.in-Some.ensures.cases.0) (until_ok lent g.F.FnMut c.f.ensures c.in_ok-f.was refl h)))
 
 pub returns : goal.returns
 returns g c = c.loop-x.invariant.1 _ _ (until_at lent g.F.FnMut ((nil_from_length _ c.in_default.ensures.cases)) (until_none lent g.F.FnMut refl))

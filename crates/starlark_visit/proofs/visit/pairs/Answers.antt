@@ -1,20 +1,21 @@
 use Rattle.std.proofs.lemmas.List.{nil_from_length}
 use Rattle.std.proofs.Common.{refl, ap, flat_map}
 use Rattle.starlark_ast.specs.Calls.{lent}
+use Rattle.starlark_visit.proofs.GoesOn.{out_err}
 use Rattle.starlark_visit.proofs.Taking.{front_taken, rest_taken, takes_at}
 use Rattle.starlark_visit.proofs.Until.{until_none, until_at, until_then, until_stop}
 use Rattle.starlark_ast.specs.Places.{pair_places}
 use Rattle.starlark_visit.proofs.visit.pairs.Goals as goal
 
-pub returns-in-Err : goal.returns-in-Err
-returns-in-Err g c = c.loop-x.invariant.1 _ _ (until_at lent g.F.FnMut (ap (λ zs. flat_map pair_places zs) c.in-Some.ensures.cases.0) (until_stop lent g.F.FnMut _ c.two.ensures c.in-Err.is refl))
+pub returns-in_err-two : goal.returns-in_err-two
+returns-in_err-two g c = c.loop-x.invariant.1 _ _ (until_at lent g.F.FnMut (ap (λ zs. flat_map pair_places zs) c.in-Some.ensures.cases.0) (until_stop lent g.F.FnMut _ c.two.ensures c.in_err-two.was (out_err c.from_residual.result c.from_residual.ensures.1)))
 
 pub two-requires : goal.two-requires
 two-requires g c = front_taken lent g.F.FnMut (pair_places _) (flat_map pair_places _) (takes_at lent g.F.FnMut (ap (λ zs. flat_map pair_places zs) c.in-Some.ensures.cases.0) c.loop-x.invariant.0)
 
 pub loop-x-preserved : goal.loop-x-preserved
 loop-x-preserved g c =
-    (rest_taken lent g.F.FnMut (pair_places _) (flat_map pair_places _) (takes_at lent g.F.FnMut (ap (λ zs. flat_map pair_places zs) c.in-Some.ensures.cases.0) c.loop-x.invariant.0) c.two.ensures c.in_default-two.is, λ r last h. c.loop-x.invariant.1 r last (until_at lent g.F.FnMut (ap (λ zs. flat_map pair_places zs) c.in-Some.ensures.cases.0) (until_then lent g.F.FnMut c.two.ensures c.in_default-two.is h)))
+    (rest_taken lent g.F.FnMut (pair_places _) (flat_map pair_places _) (takes_at lent g.F.FnMut (ap (λ zs. flat_map pair_places zs) c.in-Some.ensures.cases.0) c.loop-x.invariant.0) c.two.ensures c.in_ok-two.was, λ r last h. c.loop-x.invariant.1 r last (until_at lent g.F.FnMut (ap (λ zs. flat_map pair_places zs) c.in-Some.ensures.cases.0) (until_then lent g.F.FnMut c.two.ensures c.in_ok-two.was h)))
 
 pub returns : goal.returns
 returns g c = c.loop-x.invariant.1 _ _ (until_at lent g.F.FnMut (ap (λ zs. flat_map pair_places zs) (nil_from_length _ c.in_default.ensures.cases)) (until_none lent g.F.FnMut refl))

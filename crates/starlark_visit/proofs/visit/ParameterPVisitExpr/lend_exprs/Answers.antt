@@ -6,12 +6,12 @@ use Rattle.starlark_visit.proofs.Taking.{front_taken, rest_taken, takes_at}
 use Rattle.starlark_visit.proofs.Until.{until_at, until_then}
 use Rattle.starlark_visit.proofs.visit.ParameterPVisitExpr.lend_exprs.Goals as goal
 
-pub returns-in_default : goal.returns-in_default
-returns-in_default g c =
-    until_at lent g.F.FnMut (ap parameter_places c.in-Normal.is ∙ ap parameter_layer (parameter.outs-Normal c.in-Normal.field-0 c.in-Normal.ty c.in-Normal.default)) (until_then lent g.F.FnMut c.maybe_type.ensures c.in_default.is c.maybe.ensures)
+pub returns-in_ok-maybe_type-in-Normal : goal.returns-in_ok-maybe_type-in-Normal
+returns-in_ok-maybe_type-in-Normal g c =
+    until_at lent g.F.FnMut (ap parameter_places c.in-Normal.is ∙ ap parameter_layer (parameter.outs-Normal c.in-Normal.field-0 c.in-Normal.ty c.in-Normal.default)) (until_then lent g.F.FnMut c.maybe_type.ensures c.in_ok-maybe_type-in-Normal.was c.maybe.ensures)
 
 pub maybe_type-requires : goal.maybe_type-requires
 maybe_type-requires g c = front_taken lent g.F.FnMut (maybe_type_place c.in-Normal.ty) (maybe_place c.in-Normal.default) (takes_at lent g.F.FnMut (ap parameter_places c.in-Normal.is ∙ ap parameter_layer (parameter.outs-Normal c.in-Normal.field-0 c.in-Normal.ty c.in-Normal.default)) c.requires)
 
 pub maybe-requires : goal.maybe-requires
-maybe-requires g c = rest_taken lent g.F.FnMut (maybe_type_place c.in-Normal.ty) (maybe_place c.in-Normal.default) (takes_at lent g.F.FnMut (ap parameter_places c.in-Normal.is ∙ ap parameter_layer (parameter.outs-Normal c.in-Normal.field-0 c.in-Normal.ty c.in-Normal.default)) c.requires) c.maybe_type.ensures c.in_default.is
+maybe-requires g c = rest_taken lent g.F.FnMut (maybe_type_place c.in-Normal.ty) (maybe_place c.in-Normal.default) (takes_at lent g.F.FnMut (ap parameter_places c.in-Normal.is ∙ ap parameter_layer (parameter.outs-Normal c.in-Normal.field-0 c.in-Normal.ty c.in-Normal.default)) c.requires) c.maybe_type.ensures c.in_ok-maybe_type-in-Normal.was
