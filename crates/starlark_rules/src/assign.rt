@@ -9,7 +9,7 @@ ghost use Rattle.starlark_ast.specs.Views.{items_of, targets_of};
 ghost use Rattle.starlark_rulebook.specs.Targets as targets;
 ghost use Rattle.starlark_rulebook.specs.View.{IsPlaced, RefusesFor, maybe_finding};
 
-use crate::finding::{broken_if, refused};
+use crate::finding::{broken, refused};
 use starlark_ast::ast::{
     AssignIdentP, AssignOp, AssignP, AssignTargetP, AstAssignIdent, AstAssignTarget, AstExpr,
     AstExprP, AstIdent, AstPayload, AstString, AstTypeExpr, AstTypeExprP, Expr, ExprP, IdentP,
@@ -100,8 +100,8 @@ fn modify_fault<P: AstPayload>(lhs: &AstExprP<P>, op: Option<AssignOp>) -> Optio
     match op {
         None => None,
         Some(_) => match &lhs.node {
-            ExprP::Tuple(_) => broken_if(true, Rule::InvalidModifyLhs, lhs.span),
-            ExprP::List(_) => broken_if(true, Rule::InvalidModifyLhs, lhs.span),
+            ExprP::Tuple(_) => broken(Rule::InvalidModifyLhs, lhs.span),
+            ExprP::List(_) => broken(Rule::InvalidModifyLhs, lhs.span),
             _ => None,
         },
     }
@@ -119,10 +119,10 @@ fn annotation_fault<P: AstPayload>(
         return None;
     };
     match op {
-        Some(_) => broken_if(true, Rule::TypeAnnotationOnAssignOp, ty.span),
+        Some(_) => broken(Rule::TypeAnnotationOnAssignOp, ty.span),
         None => match &lhs.node {
-            ExprP::Tuple(_) => broken_if(true, Rule::TypeAnnotationOnTupleAssign, ty.span),
-            ExprP::List(_) => broken_if(true, Rule::TypeAnnotationOnTupleAssign, ty.span),
+            ExprP::Tuple(_) => broken(Rule::TypeAnnotationOnTupleAssign, ty.span),
+            ExprP::List(_) => broken(Rule::TypeAnnotationOnTupleAssign, ty.span),
             _ => None,
         },
     }

@@ -5,7 +5,7 @@ ghost use Rattle.starlark_ast.specs.View.{argument_at, members};
 ghost use Rattle.starlark_rulebook.specs.Calls as calls;
 ghost use Rattle.starlark_rulebook.specs.View.{maybe_finding};
 
-use crate::finding::broken_if;
+use crate::finding::{broken, broken_if};
 use starlark_ast::ast::{ArgumentP, AstArgumentP, AstPayload};
 use starlark_place::pos::Spanned;
 use starlark_rulebook::rule::Rule;
@@ -85,7 +85,7 @@ fn argument_fault<P: AstPayload>(
         }
         ArgumentP::Named(name, _) => {
             if kinds.star {
-                return broken_if(true, Rule::NamedAfterStar, x.span);
+                return broken(Rule::NamedAfterStar, x.span);
             }
             let again = is_named(before, &name.node);
             broken_if(again, Rule::RepeatedNamed, name.span)

@@ -11,15 +11,18 @@ use starlark_place::pos::{Span, Spanned};
 use starlark_rulebook::rule::{Rule, RuleException};
 use std::alloc::Global;
 
-/// The rule at its place, where it is broken.
-pub(crate) fn broken_if(broken: bool, rule: Rule, span: Span) -> Option<Spanned<Rule>>
-    ensures { maybe_finding result ≡ (if broken then Some (breaks (rule_view rule) span) else None) }
+/// The rule at its place.
+pub(crate) fn broken(rule: Rule, span: Span) -> Option<Spanned<Rule>>
+    ensures { maybe_finding result ≡ Some (breaks (rule_view rule) span) }
 {
-    if broken {
-        Some(Spanned { span, node: rule })
-    } else {
-        None
-    }
+    Some(Spanned { span, node: rule })
+}
+
+/// The rule at its place, where it is broken.
+pub(crate) fn broken_if(is_broken: bool, rule: Rule, span: Span) -> Option<Spanned<Rule>>
+    ensures { maybe_finding result ≡ (if is_broken then Some (breaks (rule_view rule) span) else None) }
+{
+    if is_broken { broken(rule, span) } else { None }
 }
 
 /// The refusal for what was found.

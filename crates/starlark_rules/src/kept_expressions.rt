@@ -10,7 +10,7 @@ ghost use Rattle.starlark_rulebook.specs.Rules.{first_finding, listed};
 ghost use Rattle.starlark_rulebook.specs.View.{maybe_finding};
 
 use crate::call::call_fault;
-use crate::finding::broken_if;
+use crate::finding::broken;
 use starlark_ast::ast::{
     AssignTargetP, AstArgumentP, AstAssignTargetP, AstExprP, AstFStringP, AstParameterP,
     AstPayload, AstTypeExprP, ClauseP, ExprP, ForClauseP, LambdaP, ParameterP,
@@ -381,5 +381,5 @@ fn disabled_fault(dialect: &Dialect, span: Span) -> Option<Spanned<Rule>>
     if dialect.enable_f_strings {
         return None;
     }
-    broken_if(true, Rule::FStringsDisabled, span)
+    broken(Rule::FStringsDisabled, span)
 }

@@ -8,7 +8,7 @@ ghost use Rattle.starlark_rulebook.specs.Calls.{any};
 ghost use Rattle.starlark_rulebook.specs.Parameters as parameters;
 ghost use Rattle.starlark_rulebook.specs.View.{maybe_finding};
 
-use crate::finding::broken_if;
+use crate::finding::{broken, broken_if};
 use starlark_ast::ast::{AstAssignIdentP, AstExprP, AstParameterP, AstPayload, ParameterP};
 use starlark_place::pos::{Pos, Span, Spanned};
 use starlark_rulebook::rule::Rule;
@@ -32,7 +32,7 @@ fn too_many<P: AstPayload>(params: &[AstParameterP<P>]) -> Option<Spanned<Rule>>
     ensures { maybe_finding result ≡ parameters.fault_if (nat_lt 4294967295 (parameters.member_count (members parameter_at params.now))) (breaks TooManyParameters (merged_all (parameters.parameter_places (members parameter_at params.now)))) }
 {
     if params.len() > 4294967295 {
-        return broken_if(true, Rule::TooManyParameters, whole_span(params));
+        return broken(Rule::TooManyParameters, whole_span(params));
     }
     None
 }
@@ -90,7 +90,7 @@ fn slash_fault<P: AstPayload>(x: &AstParameterP<P>) -> Option<Spanned<Rule>>
     ensures { maybe_finding result ≡ parameters.slash_fault (parameter_at x.now) }
 {
     match &x.node {
-        ParameterP::Slash => broken_if(true, Rule::SlashFirst, x.span),
+        ParameterP::Slash => broken(Rule::SlashFirst, x.span),
         ParameterP::Normal(_, _, _) => None,
         ParameterP::NoArgs => None,
         ParameterP::Args(_, _) => None,
@@ -264,7 +264,7 @@ fn star_fault<P: AstPayload>(params: &[AstParameterP<P>]) -> Option<Spanned<Rule
         star = star_place(x);
     }
     match star {
-        Some(span) => broken_if(true, Rule::StarLast, span),
+        Some(span) => broken(Rule::StarLast, span),
         None => None,
     }
 }
@@ -298,9 +298,9 @@ fn unnamed_fault<P: AstPayload>(x: &AstParameterP<P>) -> Option<Spanned<Rule>>
 {
     match &x.node {
         ParameterP::Normal(_, _, _) => None,
-        ParameterP::Slash => broken_if(true, Rule::StarNotNamed, x.span),
-        ParameterP::NoArgs => broken_if(true, Rule::StarNotNamed, x.span),
-        ParameterP::Args(_, _) => broken_if(true, Rule::StarNotNamed, x.span),
-        ParameterP::KwArgs(_, _) => broken_if(true, Rule::StarNotNamed, x.span),
+        ParameterP::Slash => broken(Rule::StarNotNamed, x.span),
+        ParameterP::NoArgs => broken(Rule::StarNotNamed, x.span),
+        ParameterP::Args(_, _) => broken(Rule::StarNotNamed, x.span),
+        ParameterP::KwArgs(_, _) => broken(Rule::StarNotNamed, x.span),
     }
 }

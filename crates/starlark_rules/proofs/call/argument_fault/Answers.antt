@@ -39,7 +39,7 @@ returns-then-kinds g c =
     let before = members argument_at c.args.before.now in
     let name = c.in-Named.name in
     let again = calls.any (calls.has_name (string_bytes name.node)) before in
-    c.broken_if-then-kinds.ensures ∙ ap (λ b. named s name.span b again) (sym c.if-kinds.true ∙ c.requires.stars) ∙ sym (ap (λ n. calls.argument_fault before (argument_view n s)) c.in-Named.is ∙ ap (calls.argument_fault before) (argument_view-Named name c.in-Named.field-1 s))
+    c.broken.ensures ∙ ap (λ b. named s name.span b again) (sym c.if-kinds.true ∙ c.requires.stars) ∙ sym (ap (λ n. calls.argument_fault before (argument_view n s)) c.in-Named.is ∙ ap (calls.argument_fault before) (argument_view-Named name c.in-Named.field-1 s))
 
 pub returns-else-kinds : goal.returns-else-kinds
 returns-else-kinds g c =

@@ -11,7 +11,7 @@ returns-then-params-gt4294967295 g c =
     let ms = members parameter_at c.args.params.now in
     let many : parameters.member_count ms ≡ length c.args.params.now = count_members parameter_at c.args.params.now in
     let big : nat_lt 4294967295 (parameters.member_count ms) ≡ true = rw many (search rules) in
-    c.broken_if.ensures ∙ ap (λ s. Some (breaks TooManyParameters s)) c.whole_span.ensures ∙ sym (ap (λ b. parameters.fault_if b (breaks TooManyParameters (merged_all (parameters.parameter_places ms)))) big)
+    c.broken.ensures ∙ ap (λ s. Some (breaks TooManyParameters s)) c.whole_span.ensures ∙ sym (ap (λ b. parameters.fault_if b (breaks TooManyParameters (merged_all (parameters.parameter_places ms)))) big)
 
 pub returns : goal.returns
 returns g c =
