@@ -1,5 +1,5 @@
 -- What a whole text is told.
-use Rattle.std.proofs.Common.{◌≡◌, ◌≢◌, ℕ, true, false, List, [], ◌∷◌, Option, Some, None, Result, Ok, Err, IfOk, refl, ap, sym, subst, ◌∙◌}
+use Rattle.std.proofs.Common.{◌≡◌, ◌≢◌, ◌≤◌, ℕ, length, arith, true, false, List, [], ◌∷◌, Option, Some, None, Result, Ok, Err, IfOk, refl, ap, sym, subst, ◌∙◌}
 use Rattle.starlark_place.specs.declared.pos.Spanned.{Spanned}
 use Rattle.starlark_lexer.specs.Items.{Item, Stop, Lexed}
 use Rattle.starlark_lexer.specs.Lex.{Lex, start}
@@ -15,9 +15,10 @@ use Rattle.starlark_grammar.specs.Runs.{initial, run}
 use Rattle.starlark_grammar.specs.Verdicts.{Fine, Unexpected, Broken, Spoilt, settle, judge}
 use Rattle.starlark_grammar.specs.Language.{Fault, IsProgram, IsRefusal, IsRefused, Language, by_rule, last_end, uncommented}
 use Rattle.starlark_read.specs.Asides.{Aside}
-use Rattle.starlark_read.specs.Reads.{Left, left_of, Answers, Goes, Sticks}
+use Rattle.starlark_read.specs.Reads.{Left, left_of, Answers, Goes, SameEnd, Sticks}
 use Rattle.starlark_read.specs.declared.refused.Refused.{Refused}
 use Rattle.starlark_read.specs.Refused.{fault_ahead, fault_at, fault_of, is_last}
+use Rattle.starlark_read.specs.Stops.{answer_to, end_ahead, left_over, reached}
 use Rattle.starlark_grammar.proofs.Steps.{runs_end}
 use Rattle.starlark_grammar.proofs.Refusals.{told, told_of, Answered, a_program, a_refusal, answered}
 use Rattle.starlark_grammar.proofs.Decided.{program_judge}
@@ -93,6 +94,47 @@ broken_from {d} {n = n} {us = us} f w p = broken_is f (subst (λ z. Answers d (a
 
 pub read_from : {d : Dialect} {l : Lexed} {a : Aside} {ts : Left} (us : Left) (ss : Sequence) → ts ≡ left_of 0 l a → Goes d (at_line (outer no_statements) ts.last) ts (at_line (outer ss) us.last) us → us.items ≡ [] → Read d l us (block_of ss us.last)
 read_from {d} us ss w g e = all_read us ss (subst (λ z. Goes d (at_line (outer no_statements) z.last) z (at_line (outer ss) us.last) us) w g) e
+
+-- how much is left to be read where reading stops
+settled_left : (raw : Statement) (o : Option Finding) → left_over (settle raw o) ≡ 0
+settled_left raw None = refl
+settled_left raw (Some f) = refl
+
+settled_end : (e : ℕ) (raw : Statement) (o : Option Finding) → reached e (settle raw o) ≡ e
+settled_end e raw None = refl
+settled_end e raw (Some f) = refl
+
+pub left_stuck : {d : Dialect} {l : Lexed} {a : Aside} {ts us : Left} → ts ≡ left_of 0 l a → Sticks d (at_line (outer no_statements) ts.last) ts us → length us.items ≡ left_over (answer_to d l.items)
+left_stuck {d} {us = us} w p = sym (ap left_over (subst (λ z. Sticks d (at_line (outer no_statements) z.last) z us) w p).same)
+
+pub left_broken : {d : Dialect} {l : Lexed} {a : Aside} {ts us : Left} (f : Finding) → ts ≡ left_of 0 l a → Answers d (at_line (outer no_statements) ts.last) ts (Broken f (length us.items)) us → length us.items ≡ left_over (answer_to d l.items)
+left_broken {d} {us = us} f w p = sym (ap left_over (subst (λ z. Answers d (at_line (outer no_statements) z.last) z (Broken f (length us.items)) us) w p).same)
+
+pub left_read : {d : Dialect} {l : Lexed} {us : Left} {raw : Statement} → Read d l us raw → length us.items ≡ left_over (answer_to d l.items)
+left_read {d} {raw = raw} r = ap length r.items ∙ sym (ap left_over r.same ∙ settled_left raw (end_finding d raw))
+
+-- how far the text was read there
+ends_there : (xs : List Item) (m e : ℕ) → last_end m xs ≡ e → end_ahead e xs ≡ end_ahead m xs
+ends_there [] m e h = sym h
+ends_there (x ∷ xs) m e h = refl
+
+at_most : {m n : ℕ} → m ≡ n → m ≤ n
+at_most {m} {n} h = omega (arith, h)
+
+pub reached_stuck : {d : Dialect} {l : Lexed} {a : Aside} {ts us : Left} → ts ≡ left_of 0 l a → Sticks d (at_line (outer no_statements) ts.last) ts us → reached (last_end 0 l.items) (answer_to d l.items) ≤ end_ahead us.last us.items
+reached_stuck {d} {l} {us = us} w p =
+    let q = subst (λ z. Sticks d (at_line (outer no_statements) z.last) z us) w p in
+    at_most (ap (reached (last_end 0 l.items)) q.same ∙ ends_there us.items us.last (last_end 0 l.items) q.behind.last)
+
+pub reached_broken : {d : Dialect} {l : Lexed} {a : Aside} {n k : ℕ} {ts us : Left} (f : Finding) → ts ≡ left_of 0 l a → Answers d (at_line (outer no_statements) ts.last) ts (Broken f n) us → reached (last_end 0 l.items) (answer_to d l.items) ≤ k
+reached_broken {d} {l} {n = n} {k} {us = us} f w p =
+    let q = ap (reached (last_end 0 l.items)) (subst (λ z. Answers d (at_line (outer no_statements) z.last) z (Broken f n) us) w p).same in
+    omega (arith, q)
+
+pub reached_read : {d : Dialect} {l : Lexed} {a : Aside} {ts us : Left} {raw : Statement} → ts ≡ left_of 0 l a → SameEnd ts us → Read d l us raw → reached (last_end 0 l.items) (answer_to d l.items) ≤ end_ahead us.last us.items
+reached_read {d} {l} {us = us} {raw} w e r =
+    let q = (subst (λ z. SameEnd z us) w e).last in
+    at_most (ap (reached (last_end 0 l.items)) r.same ∙ settled_end (last_end 0 l.items) raw (end_finding d raw) ∙ sym (ap (λ xs. last_end us.last xs) (sym r.items) ∙ q) ∙ ap (λ xs. end_ahead us.last xs) (sym r.items))
 
 -- the reason that was given
 pub given : {A : Type 0} {d : Dialect} {l : Lexed} {r : Refused} {g : Fault} → fault_of r ≡ Some g → IsRefusal d l g → (e : Refused) (f : Fault) → ◌≡◌ {A = Result A Refused} (Err r) (Err e) → fault_of e ≡ Some f → IsRefusal d l f

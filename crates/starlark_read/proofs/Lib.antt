@@ -18,3 +18,4 @@ pub mod Loading
 pub mod Rows
 pub mod Signing
 pub mod Answering
+pub mod Asking

@@ -7,3 +7,4 @@ pub mod Assigning
 pub mod Lines
 pub mod Signature
 pub mod Refused
+pub mod Stops

@@ -85,83 +85,34 @@ pub(crate) enum Kind {
     End,
 }
 
+// the kind that is named as the token is: of a token that holds nothing, and of one that does
+macro_rules! kind_by_name {
+    ($token:ident, plain: $($plain:ident)+, with: $($with:ident)+) => {
+        match $token {
+            $(Token::$plain => Kind::$plain,)+
+            $(Token::$with(_) => Kind::$with,)+
+        }
+    };
+}
+
 /// The kind of a token.
 pub(crate) fn kind_of(token: &Token) -> Kind
     ensures { result ≡ kind_of (lexeme_of token.now) }
 {
-    match token {
-        Token::Newline => Kind::Newline,
-        Token::Indent => Kind::Indent,
-        Token::Dedent => Kind::Dedent,
-        Token::Comment(_) => Kind::Comment,
-        Token::Identifier(_) => Kind::Identifier,
-        Token::Int(_) => Kind::Int,
-        Token::Float(_) => Kind::Float,
-        Token::String(_) => Kind::String,
-        Token::Bytes(_) => Kind::Bytes,
-        Token::FStringStart(_) => Kind::FStringStart,
-        Token::FStringText(_) => Kind::FStringText,
-        Token::FStringExprStart => Kind::FStringExprStart,
-        Token::FStringBang => Kind::FStringBang,
-        Token::FStringExprEnd => Kind::FStringExprEnd,
-        Token::FStringEnd => Kind::FStringEnd,
-        Token::And => Kind::And,
-        Token::Break => Kind::Break,
-        Token::Continue => Kind::Continue,
-        Token::Def => Kind::Def,
-        Token::Elif => Kind::Elif,
-        Token::Else => Kind::Else,
-        Token::For => Kind::For,
-        Token::If => Kind::If,
-        Token::In => Kind::In,
-        Token::Lambda => Kind::Lambda,
-        Token::Load => Kind::Load,
-        Token::Not => Kind::Not,
-        Token::Or => Kind::Or,
-        Token::Pass => Kind::Pass,
-        Token::Return => Kind::Return,
-        Token::Comma => Kind::Comma,
-        Token::Semicolon => Kind::Semicolon,
-        Token::Colon => Kind::Colon,
-        Token::Equal => Kind::Equal,
-        Token::PlusEqual => Kind::PlusEqual,
-        Token::MinusEqual => Kind::MinusEqual,
-        Token::StarEqual => Kind::StarEqual,
-        Token::SlashEqual => Kind::SlashEqual,
-        Token::SlashSlashEqual => Kind::SlashSlashEqual,
-        Token::PercentEqual => Kind::PercentEqual,
-        Token::AmpersandEqual => Kind::AmpersandEqual,
-        Token::PipeEqual => Kind::PipeEqual,
-        Token::CaretEqual => Kind::CaretEqual,
-        Token::LessLessEqual => Kind::LessLessEqual,
-        Token::GreaterGreaterEqual => Kind::GreaterGreaterEqual,
-        Token::EqualEqual => Kind::EqualEqual,
-        Token::BangEqual => Kind::BangEqual,
-        Token::LessThan => Kind::LessThan,
-        Token::GreaterThan => Kind::GreaterThan,
-        Token::LessEqual => Kind::LessEqual,
-        Token::GreaterEqual => Kind::GreaterEqual,
-        Token::Plus => Kind::Plus,
-        Token::Minus => Kind::Minus,
-        Token::Star => Kind::Star,
-        Token::StarStar => Kind::StarStar,
-        Token::Slash => Kind::Slash,
-        Token::SlashSlash => Kind::SlashSlash,
-        Token::Percent => Kind::Percent,
-        Token::Ampersand => Kind::Ampersand,
-        Token::Pipe => Kind::Pipe,
-        Token::Caret => Kind::Caret,
-        Token::LessLess => Kind::LessLess,
-        Token::GreaterGreater => Kind::GreaterGreater,
-        Token::Tilde => Kind::Tilde,
-        Token::Dot => Kind::Dot,
-        Token::Ellipsis => Kind::Ellipsis,
-        Token::MinusGreater => Kind::MinusGreater,
-        Token::OpeningRound => Kind::OpeningRound,
-        Token::ClosingRound => Kind::ClosingRound,
-        Token::OpeningSquare => Kind::OpeningSquare,
-        Token::ClosingSquare => Kind::ClosingSquare,
-        Token::OpeningCurly => Kind::OpeningCurly,
-        Token::ClosingCurly => Kind::ClosingCurly,
-    }
+    kind_by_name!(
+        token,
+        plain:
+            Newline Indent Dedent
+            FStringExprStart FStringBang FStringExprEnd FStringEnd
+            And Break Continue Def Elif Else For If In Lambda Load Not Or Pass Return
+            Comma Semicolon Colon Equal
+            PlusEqual MinusEqual StarEqual SlashEqual SlashSlashEqual PercentEqual
+            AmpersandEqual PipeEqual CaretEqual LessLessEqual GreaterGreaterEqual
+            EqualEqual BangEqual LessThan GreaterThan LessEqual GreaterEqual
+            Plus Minus Star StarStar Slash SlashSlash Percent
+            Ampersand Pipe Caret LessLess GreaterGreater Tilde
+            Dot Ellipsis MinusGreater
+            OpeningRound ClosingRound OpeningSquare ClosingSquare OpeningCurly ClosingCurly,
+        with: Comment Identifier Int Float String Bytes FStringStart FStringText
+    )
 }

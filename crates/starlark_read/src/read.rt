@@ -9,6 +9,7 @@ ghost use Rattle.starlark_grammar.specs.Comments.{comments_in, joined_in};
 ghost use Rattle.starlark_grammar.specs.Language.{Fault, IsProgram, IsRefusal, IsRefused, Language, last_end, uncommented};
 ghost use Rattle.starlark_read.specs.Reads.{left_of, SameEnd};
 ghost use Rattle.starlark_read.specs.Refused.{fault_of, is_last};
+ghost use Rattle.starlark_read.specs.Stops.{answer_to, end_ahead, left_over, reached};
 
 use crate::block::block;
 use crate::error::Error;
@@ -44,6 +45,9 @@ pub fn read<B: Build>(
     ensures some { IfErr result (λ e. fault_of e ≢ None → 1 ≤ told.new.cost.asks) }
     ensures most { IfErr result (λ e. fault_of e ≢ None → told.new.cost.asks ≤ counted (suc (length lexer.entry.left.items))) }
     ensures last { IfErr result (λ e. is_last (fault_of e) ≡ true → told.new.cost.asks ≡ counted (suc (length lexer.entry.left.items))) }
+    ensures each { IfErr result (λ e. fault_of e ≢ None → counted (suc (length lexer.entry.left.items)) ≤ told.new.cost.asks + (left_over (answer_to dialect.now (uncommented lexer.entry.left).items) + length (comments_in lexer.entry.left.items))) }
+    ensures few { IfErr result (λ e. fault_of e ≢ None → counted (told.new.cost.asks + left_over (answer_to dialect.now (uncommented lexer.entry.left).items)) ≤ counted (suc (length lexer.entry.left.items))) }
+    ensures reached { IfErr result (λ e. fault_of e ≢ None → reached (last_end 0 (uncommented lexer.entry.left).items) (answer_to dialect.now (uncommented lexer.entry.left).items) ≤ told.new.cost.reads) }
     ensures spent { IfErr result (λ e. fault_of e ≢ None → told.new.cost.reads ≤ 16 * lexer.entry.size + 16) }
 {
     *told = Told::nothing(alloc);
@@ -71,6 +75,8 @@ fn program<B: Build>(tokens: &mut Tokens<'_>, dialect: &Dialect) -> Result<B::St
     ensures ended { IfOk result (λ x. (tokens.new.items ≡ []) × SameEnd tokens.old tokens.new) }
     ensures last { IfErr result (λ e. is_last (fault_of e) ≡ true → tokens.new.items ≡ []) }
     ensures aside { IfErr result (λ e. fault_of e ≢ None → tokens.new.aside ≡ tokens.old.aside) }
+    ensures left { (l : Lexed) (a : Aside) → tokens.old ≡ left_of 0 l a → IfErr result (λ e. fault_of e ≢ None → length tokens.new.items ≡ left_over (answer_to dialect.now l.items)) }
+    ensures reached { (l : Lexed) (a : Aside) → tokens.old ≡ left_of 0 l a → IfErr result (λ e. fault_of e ≢ None → reached (last_end 0 l.items) (answer_to dialect.now l.items) ≤ end_ahead tokens.new.last tokens.new.items) }
 {
     let TopStatements { items, are_clean } = match statements::<B>(tokens, dialect) {
         Ok(statements) => statements,

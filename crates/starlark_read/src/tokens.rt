@@ -1,11 +1,11 @@
 //! The tokens of a text, with one token of look-ahead.
 
-ghost use Rattle.std.specs.Prelude.{◌≡◌, ◌≢◌, ◌≤◌, ◌+◌, ◌*◌, [], IfOk, MatchOption, Some, None, true, string_bytes, Err, max};
+ghost use Rattle.std.specs.Prelude.{◌≡◌, ◌≢◌, ◌≤◌, ◌+◌, ◌*◌, [], length, IfOk, MatchOption, Some, None, true, string_bytes, Err, max};
 ghost use Rattle.std.specs.Bool.{MatchBool};
 ghost use Rattle.starlark_place.specs.declared.pos.Spanned.{Spanned};
 ghost use Rattle.starlark_lexer.specs.Items.{item, lexeme_of, identifier, string};
 ghost use Rattle.starlark_rulebook.specs.declared.rule.Rule.{Rule};
-ghost use Rattle.starlark_read.specs.Asides.{ahead_end, aside_of};
+ghost use Rattle.starlark_read.specs.Asides.{ahead_end, aside_of, counted};
 ghost use Rattle.starlark_grammar.specs.Events.{conversion_end};
 ghost use Rattle.starlark_read.specs.Counted.{kind_given};
 ghost use Rattle.starlark_read.specs.Gathered.{conversion_ahead};
@@ -16,6 +16,7 @@ ghost use Rattle.starlark_grammar.specs.Spans.{stretch};
 ghost use Rattle.starlark_grammar.specs.Verdicts.{begins_test};
 ghost use Rattle.starlark_read.specs.Refused.{fault_ahead, fault_of};
 ghost use Rattle.starlark_read.specs.Reads.{left_of, with_ahead, first_lexeme, grade_ahead, name_ahead, string_ahead, Passes};
+ghost use Rattle.starlark_read.specs.Stops.{end_ahead};
 
 use crate::cost::Cost;
 use crate::error::Error;
@@ -94,7 +95,10 @@ impl<'a> Tokens<'a> {
         ensures some { 1 ≤ result.asks }
         ensures most { result.asks ≤ self.now.aside.asks }
         ensures whole { self.now.items ≡ [] → result.asks ≡ self.now.aside.asks }
+        ensures each { self.now.aside.asks ≤ result.asks + (length self.now.items + length self.now.aside.comments) }
+        ensures few { counted (result.asks + length self.now.items) ≤ self.now.aside.asks }
         ensures reads { self.now.last ≤ result.reads }
+        ensures ahead { end_ahead self.now.last self.now.items ≤ result.reads }
         ensures bounded { result.reads ≤ 16 * self.now.aside.size + 16 }
     {
         self.feed.cost()

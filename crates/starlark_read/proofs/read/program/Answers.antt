@@ -3,7 +3,7 @@ use Rattle.starlark_rulebook.specs.View.{maybe_finding}
 use Rattle.starlark_grammar.specs.Events.{end_finding}
 use Rattle.starlark_grammar.specs.Made.{sequence_of}
 use Rattle.starlark_grammar.specs.Nodes.{block_of}
-use Rattle.starlark_read.proofs.Answering.{broken_from, fault_is, fine_is, given, none_left, read_as, read_from, spoilt_is, stuck_from}
+use Rattle.starlark_read.proofs.Answering.{broken_from, fault_is, fine_is, given, left_read, none_left, reached_read, read_as, read_from, spoilt_is, stuck_from}
 use Rattle.starlark_read.proofs.read.program.Goals as goal
 
 pub returns-in-Err-Unexpected-clause-refused : goal.returns-in-Err-Unexpected-clause-refused
@@ -56,3 +56,15 @@ returns-in-Err-Unexpected-clause-last g c h = none_left c.refusal.result _ _ _ c
 
 pub returns-in-Some-clause-last : goal.returns-in-Some-clause-last
 returns-in-Some-clause-last g c h = c.in-Ok.ensures.whole
+
+pub returns-in-Some-clause-left : goal.returns-in-Some-clause-left
+returns-in-Some-clause-left g c l a w h = left_read (read_from _ _ w (c.statements.ensures.reads.comes c.in-Ok.statements (search rules)) c.in-Ok.ensures.whole)
+
+pub returns-in-Some-clause-reached : goal.returns-in-Some-clause-reached
+returns-in-Some-clause-reached g c l a w h = reached_read w (c.statements.ensures.reads.comes c.in-Ok.statements (search rules)).behind (read_from _ _ w (c.statements.ensures.reads.comes c.in-Ok.statements (search rules)) c.in-Ok.ensures.whole)
+
+pub returns-in-Some-2-clause-left : goal.returns-in-Some-2-clause-left
+returns-in-Some-2-clause-left g c l a w h = left_read (read_from _ _ w (c.statements.ensures.reads.comes c.in-Ok.statements (search rules)) c.in-Ok.ensures.whole)
+
+pub returns-in-Some-2-clause-reached : goal.returns-in-Some-2-clause-reached
+returns-in-Some-2-clause-reached g c l a w h = reached_read w (c.statements.ensures.reads.comes c.in-Ok.statements (search rules)).behind (read_from _ _ w (c.statements.ensures.reads.comes c.in-Ok.statements (search rules)) c.in-Ok.ensures.whole)

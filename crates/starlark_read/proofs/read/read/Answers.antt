@@ -1,7 +1,8 @@
-use Rattle.std.proofs.Common.{ap, sym, ◌∙◌}
-use Rattle.std.proofs.lemmas.Result.{IfOk-at_ok}
+use Rattle.std.proofs.Common.{ap, sym, ◌∙◌, arith}
+use Rattle.std.proofs.lemmas.Result.{IfErr-at_err, IfOk-at_ok}
 use Rattle.starlark_grammar.specs.Language.{uncommented}
 use Rattle.starlark_read.proofs.Answering.{opened, refused_text, whole_texts}
+use Rattle.starlark_read.proofs.Asking.{each_of, few_of}
 use Rattle.starlark_read.proofs.read.read.Goals as goal
 
 pub returns-in-Ok-answer-clause-whole : goal.returns-in-Ok-answer-clause-whole
@@ -17,3 +18,19 @@ returns-in-Err-clause-refused g c e f q w =
 pub returns-in-Err-clause-reason : goal.returns-in-Err-clause-reason
 returns-in-Err-clause-reason g c text e f h q w =
     refused_text h (c.program-answer.ensures.refused _ _ (opened c.new-tokens.ensures c.in-Ok.ensures.tokens (sym (ap (λ z. uncommented z.left) c.new-feed.ensures.lexer)) c.in-Ok.ensures.aside) e f (c.in-Err.is ∙ q) w)
+
+pub returns-in-Err-clause-each : goal.returns-in-Err-clause-each
+returns-in-Err-clause-each g c h =
+    let w = (opened c.new-tokens.ensures c.in-Ok.ensures.tokens (sym (ap (λ z. uncommented z.left) c.new-feed.ensures.lexer)) (c.in-Ok.ensures.aside ∙ c.new-feed.ensures.aside)) in
+    each_of c.cost-told-2.result.asks (IfErr-at_err _ c.in-Err.is c.program-answer.ensures.aside h ∙ ap (λ z. z.aside) w) (IfErr-at_err _ c.in-Err.is (c.program-answer.ensures.left _ _ w) h) c.cost-told-2.ensures.each
+
+pub returns-in-Err-clause-few : goal.returns-in-Err-clause-few
+returns-in-Err-clause-few g c h =
+    let w = (opened c.new-tokens.ensures c.in-Ok.ensures.tokens (sym (ap (λ z. uncommented z.left) c.new-feed.ensures.lexer)) (c.in-Ok.ensures.aside ∙ c.new-feed.ensures.aside)) in
+    few_of c.cost-told-2.result.asks (IfErr-at_err _ c.in-Err.is c.program-answer.ensures.aside h ∙ ap (λ z. z.aside) w) (IfErr-at_err _ c.in-Err.is (c.program-answer.ensures.left _ _ w) h) c.cost-told-2.ensures.few
+
+pub returns-in-Err-clause-reached : goal.returns-in-Err-clause-reached
+returns-in-Err-clause-reached g c h =
+    let w = (opened c.new-tokens.ensures c.in-Ok.ensures.tokens (sym (ap (λ z. uncommented z.left) c.new-feed.ensures.lexer)) (c.in-Ok.ensures.aside ∙ c.new-feed.ensures.aside)) in
+    let there = IfErr-at_err _ c.in-Err.is (c.program-answer.ensures.reached _ _ w) h in
+    omega (arith, there, c.cost-told-2.ensures.ahead)
