@@ -14,7 +14,9 @@ pub(crate) fn holds(rt: &impl Abort, found: bool)
 }
 
 /// It holds of a row of a table.
-pub(crate) fn holds_in(rt: &impl Abort, row: &str, found: bool) {
+pub(crate) fn holds_in(rt: &impl Abort, row: &str, found: bool)
+    ensures { found ≡ true }
+{
     assert!(rt; found, "{row}");
 }
 
@@ -26,16 +28,15 @@ pub(crate) fn count(rt: &impl Abort, found: usize, wanted: usize)
 }
 
 /// Both are equal.
-pub(crate) fn equal<T: PartialEq + Debug + Drop>(rt: &impl Abort, found: T, wanted: T) {
+pub(crate) fn equal<T: PartialEq + Debug + Drop>(rt: &impl Abort, found: T, wanted: T)
+    ensures { T.PartialEq.eq found wanted ≡ true }
+{
     assert_eq!(rt; found, wanted);
 }
 
 /// Both are equal, in a row of a table.
-pub(crate) fn equal_in<T: PartialEq + Debug + Drop>(
-    rt: &impl Abort,
-    row: &str,
-    found: T,
-    wanted: T,
-) {
+pub(crate) fn equal_in<T: PartialEq + Debug + Drop>(rt: &impl Abort, row: &str, found: T, wanted: T)
+    ensures { T.PartialEq.eq found wanted ≡ true }
+{
     assert_eq!(rt; found, wanted, "{row}");
 }
