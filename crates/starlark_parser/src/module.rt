@@ -90,7 +90,7 @@ impl AstModule {
         ensures dialect { IfOk result.0 (λ m. dialect_of m ≡ dialect.now) }
         ensures comments { IfOk result.0 (λ m. AreComments (string_bytes content) (comments_of m) (joined_of m)) }
         ensures fault { IfErr result.0 (λ e. IsFault dialect.now (record { id = id.0; name = filename.now; source = string_bytes content }) e) }
-        ensures cost { Costs (string_bytes content) result.0 result.1 }
+        ensures cost { Costs dialect.now (string_bytes content) result.0 result.1 }
     {
         let mut cost = Cost::NONE;
         let module = module_of(alloc, id, filename, content, dialect, &mut cost);

@@ -37,7 +37,7 @@ pub(crate) fn module_of(
     ensures dialect { IfOk result (λ m. dialect_of m ≡ dialect.now) }
     ensures comments { IfOk result (λ m. AreComments (string_bytes content) (comments_of m) (joined_of m)) }
     ensures fault { IfErr result (λ e. IsFault dialect.now (record { id = id.0; name = filename.now; source = string_bytes content }) e) }
-    ensures cost { Costs (string_bytes content) result cost.new }
+    ensures cost { Costs dialect.now (string_bytes content) result cost.new }
 {
     let bytes = content.len();
     if bytes > u32::MAX as usize {
