@@ -20,9 +20,7 @@ fn call<P: AstPayload, E, F: FnMut(&mut AstExprP<P>) -> Result<(), E>>(
     ensures kept { KeepsArgs args.old args.new }
     ensures callable { F.IsAlwaysCallable f.new }
 {
-    if let Err(e) = boxed(x, f) {
-        return Err(e);
-    }
+    boxed(x, f)?;
     args.visit_expr_err_mut(f)
 }
 
@@ -39,12 +37,8 @@ fn bounds<P: AstPayload, E, F: FnMut(&mut AstExprP<P>) -> Result<(), E>>(
     ensures third { block_of c.new ≡ block_of c.old }
     ensures callable { F.IsAlwaysCallable f.new }
 {
-    if let Err(e) = maybe(a, f) {
-        return Err(e);
-    }
-    if let Err(e) = maybe(b, f) {
-        return Err(e);
-    }
+    maybe(a, f)?;
+    maybe(b, f)?;
     maybe(c, f)
 }
 
@@ -63,9 +57,7 @@ fn slice<P: AstPayload, E, F: FnMut(&mut AstExprP<P>) -> Result<(), E>>(
     ensures third { block_of c.new ≡ block_of c.old }
     ensures callable { F.IsAlwaysCallable f.new }
 {
-    if let Err(e) = boxed(x, f) {
-        return Err(e);
-    }
+    boxed(x, f)?;
     bounds(a, b, c, f)
 }
 
@@ -82,9 +74,7 @@ fn clauses<P: AstPayload, E, F: FnMut(&mut AstExprP<P>) -> Result<(), E>>(
     ensures rest { Each KeepsClause rest.old.items rest.new.items }
     ensures callable { F.IsAlwaysCallable f.new }
 {
-    if let Err(e) = (**first).visit_expr_err_mut(f) {
-        return Err(e);
-    }
+    (**first).visit_expr_err_mut(f)?;
     parts(rest, f)
 }
 
@@ -103,9 +93,7 @@ fn listed<P: AstPayload, E, F: FnMut(&mut AstExprP<P>) -> Result<(), E>>(
     ensures rest { Each KeepsClause rest.old.items rest.new.items }
     ensures callable { F.IsAlwaysCallable f.new }
 {
-    if let Err(e) = clauses(first, rest, f) {
-        return Err(e);
-    }
+    clauses(first, rest, f)?;
     boxed(x, f)
 }
 
@@ -124,9 +112,7 @@ fn mapped<P: AstPayload, E, F: FnMut(&mut AstExprP<P>) -> Result<(), E>>(
     ensures rest { Each KeepsClause rest.old.items rest.new.items }
     ensures callable { F.IsAlwaysCallable f.new }
 {
-    if let Err(e) = clauses(first, rest, f) {
-        return Err(e);
-    }
+    clauses(first, rest, f)?;
     pair(x, f)
 }
 

@@ -93,9 +93,7 @@ fn both<P: AstPayload, E, F: FnMut(&mut AstTypeExprP<P>) -> Result<(), E>>(
     ensures second { KeepsTypes y.old y.new }
     ensures callable { F.IsAlwaysCallable f.new }
 {
-    if let Err(e) = expr(x, f) {
-        return Err(e);
-    }
+    expr(x, f)?;
     expr(y, f)
 }
 
@@ -148,9 +146,7 @@ fn three<P: AstPayload, E, F: FnMut(&mut AstTypeExprP<P>) -> Result<(), E>>(
     ensures third { KeepsTypes z.old z.new }
     ensures callable { F.IsAlwaysCallable f.new }
 {
-    if let Err(e) = expr(x, f) {
-        return Err(e);
-    }
+    expr(x, f)?;
     both(y, z, f)
 }
 
@@ -201,12 +197,8 @@ fn bounds<P: AstPayload, E, F: FnMut(&mut AstTypeExprP<P>) -> Result<(), E>>(
     ensures third { KeepsMaybe c.old c.new }
     ensures callable { F.IsAlwaysCallable f.new }
 {
-    if let Err(e) = bound(a, f) {
-        return Err(e);
-    }
-    if let Err(e) = bound(b, f) {
-        return Err(e);
-    }
+    bound(a, f)?;
+    bound(b, f)?;
     bound(c, f)
 }
 
@@ -227,9 +219,7 @@ fn slice<P: AstPayload, E, F: FnMut(&mut AstTypeExprP<P>) -> Result<(), E>>(
     ensures third { KeepsMaybe c.old c.new }
     ensures callable { F.IsAlwaysCallable f.new }
 {
-    if let Err(e) = boxed(x, f) {
-        return Err(e);
-    }
+    boxed(x, f)?;
     bounds(a, b, c, f)
 }
 
@@ -247,9 +237,7 @@ fn call<P: AstPayload, E, F: FnMut(&mut AstTypeExprP<P>) -> Result<(), E>>(
     ensures arguments { KeepsArguments args.old.args.items args.new.args.items }
     ensures callable { F.IsAlwaysCallable f.new }
 {
-    if let Err(e) = boxed(x, f) {
-        return Err(e);
-    }
+    boxed(x, f)?;
     arguments(&mut args.args, f)
 }
 
@@ -278,9 +266,7 @@ fn each<P: AstPayload, E, F: FnMut(&mut AstTypeExprP<P>) -> Result<(), E>>(
     ensures callable { F.IsAlwaysCallable f.new }
 {
     for i in 0..xs.len() {
-        if let Err(e) = expr(&mut xs[i], f) {
-            return Err(e);
-        }
+        expr(&mut xs[i], f)?;
     }
     Ok(())
 }
@@ -310,9 +296,7 @@ fn pairs<P: AstPayload, E, F: FnMut(&mut AstTypeExprP<P>) -> Result<(), E>>(
     ensures callable { F.IsAlwaysCallable f.new }
 {
     for i in 0..xs.len() {
-        if let Err(e) = entry(&mut xs[i], f) {
-            return Err(e);
-        }
+        entry(&mut xs[i], f)?;
     }
     Ok(())
 }
@@ -356,9 +340,7 @@ fn each_argument<P: AstPayload, E, F: FnMut(&mut AstTypeExprP<P>) -> Result<(), 
     ensures callable { F.IsAlwaysCallable f.new }
 {
     for i in 0..xs.len() {
-        if let Err(e) = argument(&mut xs[i], f) {
-            return Err(e);
-        }
+        argument(&mut xs[i], f)?;
     }
     Ok(())
 }
@@ -388,12 +370,8 @@ fn lambda<P: AstPayload, E, F: FnMut(&mut AstTypeExprP<P>) -> Result<(), E>>(
     ensures kept { KeepsLambda x.old x.new }
     ensures callable { F.IsAlwaysCallable f.new }
 {
-    if let Err(e) = own_types(&mut x.params, f) {
-        return Err(e);
-    }
-    if let Err(e) = defaults(&mut x.params, f) {
-        return Err(e);
-    }
+    own_types(&mut x.params, f)?;
+    defaults(&mut x.params, f)?;
     boxed(&mut x.body, f)
 }
 
@@ -422,9 +400,7 @@ fn each_default<P: AstPayload, E, F: FnMut(&mut AstTypeExprP<P>) -> Result<(), E
     ensures callable { F.IsAlwaysCallable f.new }
 {
     for i in 0..xs.len() {
-        if let Err(e) = default(&mut xs[i], f) {
-            return Err(e);
-        }
+        default(&mut xs[i], f)?;
     }
     Ok(())
 }
@@ -482,9 +458,7 @@ fn listed<P: AstPayload, E, F: FnMut(&mut AstTypeExprP<P>) -> Result<(), E>>(
     ensures kept { KeepsTypes x.old.value x.new.value }
     ensures callable { F.IsAlwaysCallable f.new }
 {
-    if let Err(e) = clauses(first, rest, f) {
-        return Err(e);
-    }
+    clauses(first, rest, f)?;
     boxed(x, f)
 }
 
@@ -506,9 +480,7 @@ fn mapped<P: AstPayload, E, F: FnMut(&mut AstTypeExprP<P>) -> Result<(), E>>(
     ensures kept { KeepsTypes x.old.value.1 x.new.value.1 }
     ensures callable { F.IsAlwaysCallable f.new }
 {
-    if let Err(e) = clauses(first, rest, f) {
-        return Err(e);
-    }
+    clauses(first, rest, f)?;
     pair(x, f)
 }
 
@@ -526,9 +498,7 @@ fn clauses<P: AstPayload, E, F: FnMut(&mut AstTypeExprP<P>) -> Result<(), E>>(
     ensures rest { KeepsClauses rest.old.items rest.new.items }
     ensures callable { F.IsAlwaysCallable f.new }
 {
-    if let Err(e) = for_clause(&mut **first, f) {
-        return Err(e);
-    }
+    for_clause(&mut **first, f)?;
     others(rest, f)
 }
 
@@ -557,9 +527,7 @@ fn each_clause<P: AstPayload, E, F: FnMut(&mut AstTypeExprP<P>) -> Result<(), E>
     ensures callable { F.IsAlwaysCallable f.new }
 {
     for i in 0..xs.len() {
-        if let Err(e) = clause(&mut xs[i], f) {
-            return Err(e);
-        }
+        clause(&mut xs[i], f)?;
     }
     Ok(())
 }
@@ -590,9 +558,7 @@ fn for_clause<P: AstPayload, E, F: FnMut(&mut AstTypeExprP<P>) -> Result<(), E>>
     ensures kept { KeepsFor x.old x.new }
     ensures callable { F.IsAlwaysCallable f.new }
 {
-    if let Err(e) = target(&mut x.var, f) {
-        return Err(e);
-    }
+    target(&mut x.var, f)?;
     expr(&mut x.over, f)
 }
 
@@ -639,9 +605,7 @@ fn all_targets<P: AstPayload, E, F: FnMut(&mut AstTypeExprP<P>) -> Result<(), E>
     ensures callable { F.IsAlwaysCallable f.new }
 {
     for i in 0..xs.len() {
-        if let Err(e) = target(&mut xs[i], f) {
-            return Err(e);
-        }
+        target(&mut xs[i], f)?;
     }
     Ok(())
 }

@@ -66,9 +66,7 @@ fn normal<P: AstPayload, U, E, F: FnMut(&mut AstExprP<P>) -> Result<(), E>>(
     ensures default { block_of default.new ≡ block_of default.old }
     ensures callable { F.IsAlwaysCallable f.new }
 {
-    if let Err(e) = maybe_type(ty, f) {
-        return Err(e);
-    }
+    maybe_type(ty, f)?;
     maybe(default, f)
 }
 
@@ -113,9 +111,7 @@ impl<P: AstPayload> VisitExprMut<P> for ForClauseP<P> {
         &mut self,
         f: &mut F,
     ) -> Result<(), E> {
-        if let Err(e) = self.var.node.visit_expr_err_mut(f) {
-            return Err(e);
-        }
+        self.var.node.visit_expr_err_mut(f)?;
         one(&mut self.over, f)
     }
 }
@@ -158,9 +154,7 @@ impl<P: AstPayload> VisitExprMut<P> for LambdaP<P> {
         &mut self,
         f: &mut F,
     ) -> Result<(), E> {
-        if let Err(e) = parts(&mut self.params, f) {
-            return Err(e);
-        }
+        parts(&mut self.params, f)?;
         boxed(&mut self.body, f)
     }
 }

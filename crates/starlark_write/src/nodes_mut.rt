@@ -171,9 +171,7 @@ fn two<S, X, E, V: NodeVisitorMut<S, X, E>>(x: &mut S, y: &mut S, v: &mut V) -> 
     ensures calls { NodesUntil V.leaves v.old (statement x.old ∷ statement y.old ∷ []) result v.new (statement x.new ∷ statement y.new ∷ []) }
     ensures ready { V.ready v.new }
 {
-    if let Err(e) = v.at_stmt(x) {
-        return Err(e);
-    }
+    v.at_stmt(x)?;
     one(y, v)
 }
 
@@ -214,9 +212,7 @@ fn each<S, X, E, V: NodeVisitorMut<S, X, E>>(xs: &mut [S], v: &mut V) -> Result<
     ensures ready { V.ready v.new }
 {
     for i in 0..xs.len() {
-        if let Err(e) = v.at_stmt(&mut xs[i]) {
-            return Err(e);
-        }
+        v.at_stmt(&mut xs[i])?;
     }
     Ok(())
 }
@@ -258,9 +254,7 @@ impl<P: AstPayload> VisitChildrenMut<AstStmtP<P>, AstExprP<P>> for StmtP<P> {
         &mut self,
         v: &mut V,
     ) -> Result<(), E> {
-        if let Err(e) = expr_nodes(self, v) {
-            return Err(e);
-        }
+        expr_nodes(self, v)?;
         match self {
             StmtP::Statements(xs) => list(xs, v),
             StmtP::If(c, x) => beside(x, c, v),

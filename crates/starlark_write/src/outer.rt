@@ -21,9 +21,7 @@ fn outer<P: AstPayload, E, F: FnMut(&mut AstExprP<P>) -> Result<(), E>>(
     ensures kept { KeepsOuter x.old x.new }
     ensures callable { F.IsAlwaysCallable f.new }
 {
-    if let Err(e) = exprs_err_mut(x, f) {
-        return Err(e);
-    }
+    exprs_err_mut(x, f)?;
     inner(x, f)
 }
 
@@ -81,9 +79,7 @@ fn in_each<P: AstPayload, E, F: FnMut(&mut AstExprP<P>) -> Result<(), E>>(
     ensures callable { F.IsAlwaysCallable f.new }
 {
     for i in 0..xs.len() {
-        if let Err(e) = outer(&mut xs[i].node, f) {
-            return Err(e);
-        }
+        outer(&mut xs[i].node, f)?;
     }
     Ok(())
 }
@@ -133,9 +129,7 @@ fn in_pair<P: AstPayload, E, F: FnMut(&mut AstExprP<P>) -> Result<(), E>>(
     ensures callable { F.IsAlwaysCallable f.new }
 {
     let parts = &mut **x;
-    if let Err(e) = outer(&mut parts.0.node, f) {
-        return Err(e);
-    }
+    outer(&mut parts.0.node, f)?;
     outer(&mut parts.1.node, f)
 }
 

@@ -38,9 +38,7 @@ fn each_own<P: AstPayload, E, F: FnMut(&mut AstTypeExprP<P>) -> Result<(), E>>(
     ensures callable { F.IsAlwaysCallable f.new }
 {
     for i in 0..xs.len() {
-        if let Err(e) = own(&mut xs[i].node, f) {
-            return Err(e);
-        }
+        own(&mut xs[i].node, f)?;
     }
     Ok(())
 }
@@ -124,8 +122,6 @@ pub(crate) fn defined<P: AstPayload, E, F: FnMut(&mut AstTypeExprP<P>) -> Result
     ensures returned { block_of returned.new ≡ block_of returned.old }
     ensures callable { F.IsAlwaysCallable f.new }
 {
-    if let Err(e) = own_types(params, f) {
-        return Err(e);
-    }
+    own_types(params, f)?;
     maybe(returned, f)
 }

@@ -66,9 +66,7 @@ fn modified<P: AstPayload, E, F: FnMut(&mut AstExprP<P>) -> Result<(), E>>(
     ensures operator { op.new ≡ op.old }
     ensures callable { F.IsAlwaysCallable f.new }
 {
-    if let Err(e) = lhs.node.visit_expr_err_mut(f) {
-        return Err(e);
-    }
+    lhs.node.visit_expr_err_mut(f)?;
     boxed(rhs, f)
 }
 
@@ -81,12 +79,8 @@ impl<P: AstPayload> VisitExprMut<P> for AssignP<P> {
         &mut self,
         f: &mut F,
     ) -> Result<(), E> {
-        if let Err(e) = self.lhs.node.visit_expr_err_mut(f) {
-            return Err(e);
-        }
-        if let Err(e) = held_type(&mut self.ty, f) {
-            return Err(e);
-        }
+        self.lhs.node.visit_expr_err_mut(f)?;
+        held_type(&mut self.ty, f)?;
         one(&mut self.rhs, f)
     }
 }
@@ -100,9 +94,7 @@ impl<P: AstPayload> VisitExprMut<P> for ForP<P> {
         &mut self,
         f: &mut F,
     ) -> Result<(), E> {
-        if let Err(e) = self.var.node.visit_expr_err_mut(f) {
-            return Err(e);
-        }
+        self.var.node.visit_expr_err_mut(f)?;
         one(&mut self.over, f)
     }
 }
@@ -116,9 +108,7 @@ impl<P: AstPayload> VisitExprMut<P> for DefP<P> {
         &mut self,
         f: &mut F,
     ) -> Result<(), E> {
-        if let Err(e) = parts(&mut self.params, f) {
-            return Err(e);
-        }
+        parts(&mut self.params, f)?;
         maybe_type(&mut self.return_type, f)
     }
 }

@@ -53,9 +53,7 @@ fn all_targets<P: AstPayload, E, F: FnMut(&mut AstExprP<P>) -> Result<(), E>>(
     ensures callable { F.IsAlwaysCallable f.new }
 {
     for i in 0..xs.len() {
-        if let Err(e) = target(&mut xs[i].node, f) {
-            return Err(e);
-        }
+        target(&mut xs[i].node, f)?;
     }
     Ok(())
 }
@@ -103,9 +101,7 @@ fn all_lvalues<P: AstPayload, E, F: FnMut(&mut AstAssignIdentP<P>) -> Result<(),
     ensures callable { F.IsAlwaysCallable f.new }
 {
     for i in 0..xs.len() {
-        if let Err(e) = lvalue(&mut xs[i].node, f) {
-            return Err(e);
-        }
+        lvalue(&mut xs[i].node, f)?;
     }
     Ok(())
 }

@@ -57,12 +57,8 @@ fn assign<P: AstPayload, E, F: FnMut(&mut AstTypeExprP<P>) -> Result<(), E>>(
     ensures kept { KeepsAssign x.old x.new }
     ensures callable { F.IsAlwaysCallable f.new }
 {
-    if let Err(e) = assigned(&mut x.ty, f) {
-        return Err(e);
-    }
-    if let Err(e) = target(&mut x.lhs, f) {
-        return Err(e);
-    }
+    assigned(&mut x.ty, f)?;
+    target(&mut x.lhs, f)?;
     expr(&mut x.rhs, f)
 }
 
@@ -81,9 +77,7 @@ fn modify<P: AstPayload, E, F: FnMut(&mut AstTypeExprP<P>) -> Result<(), E>>(
     ensures kept { KeepsTypes rhs.old.value rhs.new.value }
     ensures callable { F.IsAlwaysCallable f.new }
 {
-    if let Err(e) = target(lhs, f) {
-        return Err(e);
-    }
+    target(lhs, f)?;
     boxed(rhs, f)
 }
 
@@ -139,9 +133,7 @@ fn each_stmt<P: AstPayload, E, F: FnMut(&mut AstTypeExprP<P>) -> Result<(), E>>(
     ensures callable { F.IsAlwaysCallable f.new }
 {
     for i in 0..xs.len() {
-        if let Err(e) = stmt(&mut xs[i].node, f) {
-            return Err(e);
-        }
+        stmt(&mut xs[i].node, f)?;
     }
     Ok(())
 }
@@ -174,9 +166,7 @@ fn branch<P: AstPayload, E, F: FnMut(&mut AstTypeExprP<P>) -> Result<(), E>>(
     ensures kept { AtPlace KeepsStmtTypes x.old.value x.new.value }
     ensures callable { F.IsAlwaysCallable f.new }
 {
-    if let Err(e) = expr(c, f) {
-        return Err(e);
-    }
+    expr(c, f)?;
     body(x, f)
 }
 
@@ -194,9 +184,7 @@ fn branches<P: AstPayload, E, F: FnMut(&mut AstTypeExprP<P>) -> Result<(), E>>(
     ensures second { AtPlace KeepsStmtTypes x.old.value.1 x.new.value.1 }
     ensures callable { F.IsAlwaysCallable f.new }
 {
-    if let Err(e) = expr(c, f) {
-        return Err(e);
-    }
+    expr(c, f)?;
     both_stmts(x, f)
 }
 
@@ -228,9 +216,7 @@ fn two_stmts<P: AstPayload, E, F: FnMut(&mut AstTypeExprP<P>) -> Result<(), E>>(
     ensures second { AtPlace KeepsStmtTypes y.old y.new }
     ensures callable { F.IsAlwaysCallable f.new }
 {
-    if let Err(e) = stmt(&mut x.node, f) {
-        return Err(e);
-    }
+    stmt(&mut x.node, f)?;
     stmt(&mut y.node, f)
 }
 
@@ -244,12 +230,8 @@ fn repeat<P: AstPayload, E, F: FnMut(&mut AstTypeExprP<P>) -> Result<(), E>>(
     ensures kept { KeepsForStmt x.old x.new }
     ensures callable { F.IsAlwaysCallable f.new }
 {
-    if let Err(e) = target(&mut x.var, f) {
-        return Err(e);
-    }
-    if let Err(e) = expr(&mut x.over, f) {
-        return Err(e);
-    }
+    target(&mut x.var, f)?;
+    expr(&mut x.over, f)?;
     body(&mut x.body, f)
 }
 
@@ -263,12 +245,8 @@ fn define<P: AstPayload, E, F: FnMut(&mut AstTypeExprP<P>) -> Result<(), E>>(
     ensures kept { KeepsDef x.old x.new }
     ensures callable { F.IsAlwaysCallable f.new }
 {
-    if let Err(e) = defined(&mut x.params, &mut x.return_type, f) {
-        return Err(e);
-    }
-    if let Err(e) = defaults(&mut x.params, f) {
-        return Err(e);
-    }
+    defined(&mut x.params, &mut x.return_type, f)?;
+    defaults(&mut x.params, f)?;
     body(&mut x.body, f)
 }
 

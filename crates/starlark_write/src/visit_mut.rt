@@ -100,9 +100,7 @@ pub(crate) fn each_part<
     ensures callable { F.IsAlwaysCallable f.new }
 {
     for i in 0..xs.len() {
-        if let Err(e) = xs[i].visit_expr_err_mut(f) {
-            return Err(e);
-        }
+        xs[i].visit_expr_err_mut(f)?;
     }
     Ok(())
 }
@@ -136,9 +134,7 @@ pub(crate) fn two<T, E, F: FnMut(&mut T) -> Result<(), E>>(
     ensures calls { WritesUntil F.FnMut f.old (x.old ∷ y.old ∷ []) result f.new (x.new ∷ y.new ∷ []) }
     ensures callable { F.IsAlwaysCallable f.new }
 {
-    if let Err(e) = f(x) {
-        return Err(e);
-    }
+    f(x)?;
     one(y, f)
 }
 
@@ -152,9 +148,7 @@ pub(crate) fn three<T, E, F: FnMut(&mut T) -> Result<(), E>>(
     ensures calls { WritesUntil F.FnMut f.old (x.old ∷ y.old ∷ z.old ∷ []) result f.new (x.new ∷ y.new ∷ z.new ∷ []) }
     ensures callable { F.IsAlwaysCallable f.new }
 {
-    if let Err(e) = f(x) {
-        return Err(e);
-    }
+    f(x)?;
     two(y, z, f)
 }
 
@@ -224,9 +218,7 @@ pub(crate) fn each<T, E, F: FnMut(&mut T) -> Result<(), E>>(
     ensures callable { F.IsAlwaysCallable f.new }
 {
     for i in 0..xs.len() {
-        if let Err(e) = f(&mut xs[i]) {
-            return Err(e);
-        }
+        f(&mut xs[i])?;
     }
     Ok(())
 }

@@ -1,12 +1,12 @@
-use Rattle.std.proofs.Common.{refl}
+use Rattle.starlark_visit.proofs.GoesOn.{out_err}
 use Rattle.starlark_write.proofs.Writes.{writes_stop, writes_then}
 use Rattle.starlark_write.proofs.expressions.bounds.Goals as goal
 
-pub returns-in-Err-clause-calls : goal.returns-in-Err-clause-calls
-returns-in-Err-clause-calls g c = writes_stop g.F.FnMut _ c.maybe.ensures.calls c.in-Err.is refl
+pub returns-in_err-maybe-clause-calls : goal.returns-in_err-maybe-clause-calls
+returns-in_err-maybe-clause-calls g c = writes_stop g.F.FnMut _ c.maybe.ensures.calls c.in_err-maybe.was (out_err c.from_residual.result c.from_residual.ensures.1)
 
-pub returns-in-Err-maybe-clause-calls : goal.returns-in-Err-maybe-clause-calls
-returns-in-Err-maybe-clause-calls g c = writes_then g.F.FnMut c.maybe.ensures.calls c.in_default.is (writes_stop g.F.FnMut _ c.maybe-2.ensures.calls c.in-Err-maybe.is refl)
+pub returns-in_err-maybe-2-clause-calls : goal.returns-in_err-maybe-2-clause-calls
+returns-in_err-maybe-2-clause-calls g c = writes_then g.F.FnMut c.maybe.ensures.calls c.in_ok-maybe.was (writes_stop g.F.FnMut _ c.maybe-2.ensures.calls c.in_err-maybe-2.was (out_err c.from_residual-in_err-maybe-2.result c.from_residual-in_err-maybe-2.ensures.1))
 
 pub returns-clause-calls : goal.returns-clause-calls
-returns-clause-calls g c = writes_then g.F.FnMut c.maybe.ensures.calls c.in_default.is (writes_then g.F.FnMut c.maybe-2.ensures.calls c.in_default-maybe.is c.maybe-3.ensures.calls)
+returns-clause-calls g c = writes_then g.F.FnMut c.maybe.ensures.calls c.in_ok-maybe.was (writes_then g.F.FnMut c.maybe-2.ensures.calls c.in_ok-maybe-2.was c.maybe-3.ensures.calls)

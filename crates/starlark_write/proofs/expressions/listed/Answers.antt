@@ -1,12 +1,13 @@
-use Rattle.std.proofs.Common.{refl, sym, append_assoc, [], ◌∷◌, flat_map}
+use Rattle.std.proofs.Common.{sym, append_assoc, [], ◌∷◌, flat_map}
 use Rattle.starlark_ast.specs.Places.{clause_places, for_clause_places}
+use Rattle.starlark_visit.proofs.GoesOn.{out_err}
 use Rattle.starlark_write.proofs.Writes.{writes_at, writes_stop, writes_then}
 use Rattle.starlark_write.proofs.expressions.listed.Goals as goal
 
-pub returns-in-Err-clause-calls : goal.returns-in-Err-clause-calls
-returns-in-Err-clause-calls g c =
-    writes_at g.F.FnMut (sym (append_assoc (for_clause_places c.args.first.now.value) (flat_map clause_places c.args.rest.now.items) (c.args.x.now.value ∷ []))) (sym (append_assoc (for_clause_places c.clauses.new.first.value) (flat_map clause_places c.clauses.new.rest.items) (c.args.x.now.value ∷ []))) (writes_stop g.F.FnMut (c.args.x.now.value ∷ []) c.clauses.ensures.calls c.in-Err.is refl)
+pub returns-in_err-clauses-clause-calls : goal.returns-in_err-clauses-clause-calls
+returns-in_err-clauses-clause-calls g c =
+    writes_at g.F.FnMut (sym (append_assoc (for_clause_places c.args.first.now.value) (flat_map clause_places c.args.rest.now.items) (c.args.x.now.value ∷ []))) (sym (append_assoc (for_clause_places c.clauses.new.first.value) (flat_map clause_places c.clauses.new.rest.items) (c.args.x.now.value ∷ []))) (writes_stop g.F.FnMut (c.args.x.now.value ∷ []) c.clauses.ensures.calls c.in_err-clauses.was (out_err c.from_residual.result c.from_residual.ensures.1))
 
 pub returns-clause-calls : goal.returns-clause-calls
 returns-clause-calls g c =
-    writes_at g.F.FnMut (sym (append_assoc (for_clause_places c.args.first.now.value) (flat_map clause_places c.args.rest.now.items) (c.args.x.now.value ∷ []))) (sym (append_assoc (for_clause_places c.clauses.new.first.value) (flat_map clause_places c.clauses.new.rest.items) (c.boxed.new.x.value ∷ []))) (writes_then g.F.FnMut c.clauses.ensures.calls c.in_default.is c.boxed.ensures.calls)
+    writes_at g.F.FnMut (sym (append_assoc (for_clause_places c.args.first.now.value) (flat_map clause_places c.args.rest.now.items) (c.args.x.now.value ∷ []))) (sym (append_assoc (for_clause_places c.clauses.new.first.value) (flat_map clause_places c.clauses.new.rest.items) (c.boxed.new.x.value ∷ []))) (writes_then g.F.FnMut c.clauses.ensures.calls c.in_ok-clauses.was c.boxed.ensures.calls)

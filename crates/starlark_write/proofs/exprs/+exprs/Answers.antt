@@ -7,6 +7,7 @@ use Rattle.starlark_ast.specs.declared.ast.AssignTargetP.TheVariants as target
 use Rattle.starlark_ast.specs.declared.ast.ClauseP.TheVariants as clause
 use Rattle.starlark_ast.specs.declared.ast.ExprP.TheVariants as expr
 use Rattle.starlark_ast.specs.declared.ast.ParameterP.TheVariants as parameter
+use Rattle.starlark_visit.proofs.GoesOn.{out_err}
 use Rattle.starlark_write.specs.Beside.{AtPlace, KeepsArgument, SameBox}
 use Rattle.starlark_write.specs.BesideTypes as kept
 use Rattle.starlark_write.specs.BesideTypes.{KeepsAll, KeepsArguments, KeepsClauseTypes, KeepsClauses, KeepsDefault, KeepsDefaults, KeepsFor, KeepsLambda, KeepsMaybe, KeepsPairs, KeepsTargetTypes, KeepsTargetsTypes, KeepsTypes}
@@ -356,141 +357,141 @@ pub bound-returns-in-None-clause-kept : goal.bound-returns-in-None-clause-kept
 bound-returns-in-None-clause-kept g t c =
     subst (λ q. KeepsMaybe q q) (sym c.in-None.is) kept.absent
 
-pub both-returns-in-Err-clause-calls : goal.both-returns-in-Err-clause-calls
-both-returns-in-Err-clause-calls g t c =
-    writes_stop g.F.FnMut (expr_types c.args.y.now.node) c.expr.ensures.calls c.in-Err.is refl
+pub both-returns-in_err-expr-clause-calls : goal.both-returns-in_err-expr-clause-calls
+both-returns-in_err-expr-clause-calls g t c =
+    writes_stop g.F.FnMut (expr_types c.args.y.now.node) c.expr.ensures.calls c.in_err-expr.was (out_err c.from_residual.result c.from_residual.ensures.1)
 
-pub both-returns-in-Err-clause-second : goal.both-returns-in-Err-clause-second
-both-returns-in-Err-clause-second g t c =
+pub both-returns-in_err-expr-clause-second : goal.both-returns-in_err-expr-clause-second
+both-returns-in_err-expr-clause-second g t c =
     kept.same _
 
 pub both-returns-clause-calls : goal.both-returns-clause-calls
 both-returns-clause-calls g t c =
-    writes_then g.F.FnMut c.expr.ensures.calls c.in_default.is c.expr-2.ensures.calls
+    writes_then g.F.FnMut c.expr.ensures.calls c.in_ok-expr.was c.expr-2.ensures.calls
 
-pub three-returns-in-Err-clause-calls : goal.three-returns-in-Err-clause-calls
-three-returns-in-Err-clause-calls g t c =
-    writes_stop g.F.FnMut (expr_types c.args.y.now.node ++ expr_types c.args.z.now.node) c.expr.ensures.calls c.in-Err.is refl
+pub three-returns-in_err-expr-clause-calls : goal.three-returns-in_err-expr-clause-calls
+three-returns-in_err-expr-clause-calls g t c =
+    writes_stop g.F.FnMut (expr_types c.args.y.now.node ++ expr_types c.args.z.now.node) c.expr.ensures.calls c.in_err-expr.was (out_err c.from_residual.result c.from_residual.ensures.1)
 
-pub three-returns-in-Err-clause-second : goal.three-returns-in-Err-clause-second
-three-returns-in-Err-clause-second g t c =
+pub three-returns-in_err-expr-clause-second : goal.three-returns-in_err-expr-clause-second
+three-returns-in_err-expr-clause-second g t c =
     kept.same _
 
-pub three-returns-in-Err-clause-third : goal.three-returns-in-Err-clause-third
-three-returns-in-Err-clause-third g t c =
+pub three-returns-in_err-expr-clause-third : goal.three-returns-in_err-expr-clause-third
+three-returns-in_err-expr-clause-third g t c =
     kept.same _
 
 pub three-returns-clause-calls : goal.three-returns-clause-calls
 three-returns-clause-calls g t c =
-    writes_then g.F.FnMut c.expr.ensures.calls c.in_default.is c.both.ensures.calls
+    writes_then g.F.FnMut c.expr.ensures.calls c.in_ok-expr.was c.both.ensures.calls
 
-pub slice-returns-in-Err-clause-calls : goal.slice-returns-in-Err-clause-calls
-slice-returns-in-Err-clause-calls g t c =
-    writes_stop g.F.FnMut (maybe_expr_types c.args.a.now ++ (maybe_expr_types c.args.b.now ++ maybe_expr_types c.args.c.now)) c.boxed.ensures.calls c.in-Err.is refl
+pub slice-returns-in_err-boxed-clause-calls : goal.slice-returns-in_err-boxed-clause-calls
+slice-returns-in_err-boxed-clause-calls g t c =
+    writes_stop g.F.FnMut (maybe_expr_types c.args.a.now ++ (maybe_expr_types c.args.b.now ++ maybe_expr_types c.args.c.now)) c.boxed.ensures.calls c.in_err-boxed.was (out_err c.from_residual.result c.from_residual.ensures.1)
 
-pub slice-returns-in-Err-clause-first : goal.slice-returns-in-Err-clause-first
-slice-returns-in-Err-clause-first g t c =
+pub slice-returns-in_err-boxed-clause-first : goal.slice-returns-in_err-boxed-clause-first
+slice-returns-in_err-boxed-clause-first g t c =
     maybe_same _
 
-pub slice-returns-in-Err-clause-second : goal.slice-returns-in-Err-clause-second
-slice-returns-in-Err-clause-second g t c =
+pub slice-returns-in_err-boxed-clause-second : goal.slice-returns-in_err-boxed-clause-second
+slice-returns-in_err-boxed-clause-second g t c =
     maybe_same _
 
-pub slice-returns-in-Err-clause-third : goal.slice-returns-in-Err-clause-third
-slice-returns-in-Err-clause-third g t c =
+pub slice-returns-in_err-boxed-clause-third : goal.slice-returns-in_err-boxed-clause-third
+slice-returns-in_err-boxed-clause-third g t c =
     maybe_same _
 
 pub slice-returns-clause-calls : goal.slice-returns-clause-calls
 slice-returns-clause-calls g t c =
-    writes_then g.F.FnMut c.boxed.ensures.calls c.in_default.is c.bounds.ensures.calls
+    writes_then g.F.FnMut c.boxed.ensures.calls c.in_ok-boxed.was c.bounds.ensures.calls
 
-pub call-returns-in-Err-clause-calls : goal.call-returns-in-Err-clause-calls
-call-returns-in-Err-clause-calls g t c =
-    writes_stop g.F.FnMut (flat_map (λ a. argument_types a.node) c.args.args.now.args.items) c.boxed.ensures.calls c.in-Err.is refl
+pub call-returns-in_err-boxed-clause-calls : goal.call-returns-in_err-boxed-clause-calls
+call-returns-in_err-boxed-clause-calls g t c =
+    writes_stop g.F.FnMut (flat_map (λ a. argument_types a.node) c.args.args.now.args.items) c.boxed.ensures.calls c.in_err-boxed.was (out_err c.from_residual.result c.from_residual.ensures.1)
 
-pub call-returns-in-Err-clause-arguments : goal.call-returns-in-Err-clause-arguments
-call-returns-in-Err-clause-arguments g t c =
+pub call-returns-in_err-boxed-clause-arguments : goal.call-returns-in_err-boxed-clause-arguments
+call-returns-in_err-boxed-clause-arguments g t c =
     kept.arguments_rest _
 
 pub call-returns-clause-calls : goal.call-returns-clause-calls
 call-returns-clause-calls g t c =
-    writes_then g.F.FnMut c.boxed.ensures.calls c.in_default.is c.arguments.ensures.calls
+    writes_then g.F.FnMut c.boxed.ensures.calls c.in_ok-boxed.was c.arguments.ensures.calls
 
-pub bounds-returns-in-Err-clause-calls : goal.bounds-returns-in-Err-clause-calls
-bounds-returns-in-Err-clause-calls g t c =
-    writes_stop g.F.FnMut (maybe_expr_types c.args.b.now ++ maybe_expr_types c.args.c.now) c.bound.ensures.calls c.in-Err.is refl
+pub bounds-returns-in_err-bound-clause-calls : goal.bounds-returns-in_err-bound-clause-calls
+bounds-returns-in_err-bound-clause-calls g t c =
+    writes_stop g.F.FnMut (maybe_expr_types c.args.b.now ++ maybe_expr_types c.args.c.now) c.bound.ensures.calls c.in_err-bound.was (out_err c.from_residual.result c.from_residual.ensures.1)
 
-pub bounds-returns-in-Err-clause-second : goal.bounds-returns-in-Err-clause-second
-bounds-returns-in-Err-clause-second g t c =
+pub bounds-returns-in_err-bound-clause-second : goal.bounds-returns-in_err-bound-clause-second
+bounds-returns-in_err-bound-clause-second g t c =
     maybe_same _
 
-pub bounds-returns-in-Err-clause-third : goal.bounds-returns-in-Err-clause-third
-bounds-returns-in-Err-clause-third g t c =
+pub bounds-returns-in_err-bound-clause-third : goal.bounds-returns-in_err-bound-clause-third
+bounds-returns-in_err-bound-clause-third g t c =
     maybe_same _
 
-pub bounds-returns-in-Err-bound-clause-calls : goal.bounds-returns-in-Err-bound-clause-calls
-bounds-returns-in-Err-bound-clause-calls g t c =
-    writes_then g.F.FnMut c.bound.ensures.calls c.in_default.is (writes_stop g.F.FnMut (maybe_expr_types c.args.c.now) c.bound-2.ensures.calls c.in-Err-bound.is refl)
+pub bounds-returns-in_err-bound-2-clause-calls : goal.bounds-returns-in_err-bound-2-clause-calls
+bounds-returns-in_err-bound-2-clause-calls g t c =
+    writes_then g.F.FnMut c.bound.ensures.calls c.in_ok-bound.was (writes_stop g.F.FnMut (maybe_expr_types c.args.c.now) c.bound-2.ensures.calls c.in_err-bound-2.was (out_err c.from_residual-in_err-bound-2.result c.from_residual-in_err-bound-2.ensures.1))
 
-pub bounds-returns-in-Err-bound-clause-third : goal.bounds-returns-in-Err-bound-clause-third
-bounds-returns-in-Err-bound-clause-third g t c =
+pub bounds-returns-in_err-bound-2-clause-third : goal.bounds-returns-in_err-bound-2-clause-third
+bounds-returns-in_err-bound-2-clause-third g t c =
     maybe_same _
 
 pub bounds-returns-clause-calls : goal.bounds-returns-clause-calls
 bounds-returns-clause-calls g t c =
-    writes_then g.F.FnMut c.bound.ensures.calls c.in_default.is (writes_then g.F.FnMut c.bound-2.ensures.calls c.in_default-bound.is c.bound-3.ensures.calls)
+    writes_then g.F.FnMut c.bound.ensures.calls c.in_ok-bound.was (writes_then g.F.FnMut c.bound-2.ensures.calls c.in_ok-bound-2.was c.bound-3.ensures.calls)
 
-pub clauses-returns-in-Err-clause-calls : goal.clauses-returns-in-Err-clause-calls
-clauses-returns-in-Err-clause-calls g t c =
-    writes_stop g.F.FnMut (flat_map clause_types c.args.rest.now.items) (writes_at g.F.FnMut (ap for_clause_types (sym c.deref_mut.ensures.value)) refl c.for_clause.ensures.calls) c.in-Err.is refl
+pub clauses-returns-in_err-for_clause-clause-calls : goal.clauses-returns-in_err-for_clause-clause-calls
+clauses-returns-in_err-for_clause-clause-calls g t c =
+    writes_stop g.F.FnMut (flat_map clause_types c.args.rest.now.items) (writes_at g.F.FnMut (ap for_clause_types (sym c.deref_mut.ensures.value)) refl c.for_clause.ensures.calls) c.in_err-for_clause.was (out_err c.from_residual.result c.from_residual.ensures.1)
 
-pub clauses-returns-in-Err-clause-first : goal.clauses-returns-in-Err-clause-first
-clauses-returns-in-Err-clause-first g t c =
+pub clauses-returns-in_err-for_clause-clause-first : goal.clauses-returns-in_err-for_clause-clause-first
+clauses-returns-in_err-for_clause-clause-first g t c =
     seen_left KeepsFor c.deref_mut.ensures.value c.for_clause.ensures.kept
 
-pub clauses-returns-in-Err-clause-rest : goal.clauses-returns-in-Err-clause-rest
-clauses-returns-in-Err-clause-rest g t c =
+pub clauses-returns-in_err-for_clause-clause-rest : goal.clauses-returns-in_err-for_clause-clause-rest
+clauses-returns-in_err-for_clause-clause-rest g t c =
     kept.clauses_rest _
 
-pub listed-returns-in-Err-clause-calls : goal.listed-returns-in-Err-clause-calls
-listed-returns-in-Err-clause-calls g t c =
-    writes_at g.F.FnMut (sym (append_assoc (for_clause_types c.args.first.now.value) (flat_map clause_types c.args.rest.now.items) (expr_types c.args.x.now.value.node))) (sym (append_assoc (for_clause_types c.clauses.new.first.value) (flat_map clause_types c.clauses.new.rest.items) (expr_types c.args.x.now.value.node))) (writes_stop g.F.FnMut (expr_types c.args.x.now.value.node) c.clauses.ensures.calls c.in-Err.is refl)
+pub listed-returns-in_err-clauses-clause-calls : goal.listed-returns-in_err-clauses-clause-calls
+listed-returns-in_err-clauses-clause-calls g t c =
+    writes_at g.F.FnMut (sym (append_assoc (for_clause_types c.args.first.now.value) (flat_map clause_types c.args.rest.now.items) (expr_types c.args.x.now.value.node))) (sym (append_assoc (for_clause_types c.clauses.new.first.value) (flat_map clause_types c.clauses.new.rest.items) (expr_types c.args.x.now.value.node))) (writes_stop g.F.FnMut (expr_types c.args.x.now.value.node) c.clauses.ensures.calls c.in_err-clauses.was (out_err c.from_residual.result c.from_residual.ensures.1))
 
-pub listed-returns-in-Err-clause-kept : goal.listed-returns-in-Err-clause-kept
-listed-returns-in-Err-clause-kept g t c =
+pub listed-returns-in_err-clauses-clause-kept : goal.listed-returns-in_err-clauses-clause-kept
+listed-returns-in_err-clauses-clause-kept g t c =
     kept.same _
 
 pub listed-returns-clause-calls : goal.listed-returns-clause-calls
 listed-returns-clause-calls g t c =
-    writes_at g.F.FnMut (sym (append_assoc (for_clause_types c.args.first.now.value) (flat_map clause_types c.args.rest.now.items) (expr_types c.args.x.now.value.node))) (sym (append_assoc (for_clause_types c.clauses.new.first.value) (flat_map clause_types c.clauses.new.rest.items) (expr_types c.boxed.new.x.value.node))) (writes_then g.F.FnMut c.clauses.ensures.calls c.in_default.is c.boxed.ensures.calls)
+    writes_at g.F.FnMut (sym (append_assoc (for_clause_types c.args.first.now.value) (flat_map clause_types c.args.rest.now.items) (expr_types c.args.x.now.value.node))) (sym (append_assoc (for_clause_types c.clauses.new.first.value) (flat_map clause_types c.clauses.new.rest.items) (expr_types c.boxed.new.x.value.node))) (writes_then g.F.FnMut c.clauses.ensures.calls c.in_ok-clauses.was c.boxed.ensures.calls)
 
-pub mapped-returns-in-Err-clause-calls : goal.mapped-returns-in-Err-clause-calls
-mapped-returns-in-Err-clause-calls g t c =
-    writes_at g.F.FnMut (sym (append_assoc (for_clause_types c.args.first.now.value) (flat_map clause_types c.args.rest.now.items) (expr_types c.args.x.now.value.0.node ++ expr_types c.args.x.now.value.1.node))) (sym (append_assoc (for_clause_types c.clauses.new.first.value) (flat_map clause_types c.clauses.new.rest.items) (expr_types c.args.x.now.value.0.node ++ expr_types c.args.x.now.value.1.node))) (writes_stop g.F.FnMut (expr_types c.args.x.now.value.0.node ++ expr_types c.args.x.now.value.1.node) c.clauses.ensures.calls c.in-Err.is refl)
+pub mapped-returns-in_err-clauses-clause-calls : goal.mapped-returns-in_err-clauses-clause-calls
+mapped-returns-in_err-clauses-clause-calls g t c =
+    writes_at g.F.FnMut (sym (append_assoc (for_clause_types c.args.first.now.value) (flat_map clause_types c.args.rest.now.items) (expr_types c.args.x.now.value.0.node ++ expr_types c.args.x.now.value.1.node))) (sym (append_assoc (for_clause_types c.clauses.new.first.value) (flat_map clause_types c.clauses.new.rest.items) (expr_types c.args.x.now.value.0.node ++ expr_types c.args.x.now.value.1.node))) (writes_stop g.F.FnMut (expr_types c.args.x.now.value.0.node ++ expr_types c.args.x.now.value.1.node) c.clauses.ensures.calls c.in_err-clauses.was (out_err c.from_residual.result c.from_residual.ensures.1))
 
-pub mapped-returns-in-Err-clause-kept : goal.mapped-returns-in-Err-clause-kept
-mapped-returns-in-Err-clause-kept g t c =
+pub mapped-returns-in_err-clauses-clause-kept : goal.mapped-returns-in_err-clauses-clause-kept
+mapped-returns-in_err-clauses-clause-kept g t c =
     kept.same _
 
-pub mapped-returns-in-Err-clause-key : goal.mapped-returns-in-Err-clause-key
-mapped-returns-in-Err-clause-key g t c =
+pub mapped-returns-in_err-clauses-clause-key : goal.mapped-returns-in_err-clauses-clause-key
+mapped-returns-in_err-clauses-clause-key g t c =
     kept.same _
 
 pub mapped-returns-clause-calls : goal.mapped-returns-clause-calls
 mapped-returns-clause-calls g t c =
-    writes_at g.F.FnMut (sym (append_assoc (for_clause_types c.args.first.now.value) (flat_map clause_types c.args.rest.now.items) (expr_types c.args.x.now.value.0.node ++ expr_types c.args.x.now.value.1.node))) (sym (append_assoc (for_clause_types c.clauses.new.first.value) (flat_map clause_types c.clauses.new.rest.items) (expr_types c.pair.new.x.value.0.node ++ expr_types c.pair.new.x.value.1.node))) (writes_then g.F.FnMut c.clauses.ensures.calls c.in_default.is c.pair.ensures.calls)
+    writes_at g.F.FnMut (sym (append_assoc (for_clause_types c.args.first.now.value) (flat_map clause_types c.args.rest.now.items) (expr_types c.args.x.now.value.0.node ++ expr_types c.args.x.now.value.1.node))) (sym (append_assoc (for_clause_types c.clauses.new.first.value) (flat_map clause_types c.clauses.new.rest.items) (expr_types c.pair.new.x.value.0.node ++ expr_types c.pair.new.x.value.1.node))) (writes_then g.F.FnMut c.clauses.ensures.calls c.in_ok-clauses.was c.pair.ensures.calls)
 
-pub for_clause-returns-in-Err-clause-calls : goal.for_clause-returns-in-Err-clause-calls
-for_clause-returns-in-Err-clause-calls g t c =
-    writes_at g.F.FnMut (for_clause_types-parts _) (for_clause_types-parts _) (writes_stop g.F.FnMut (expr_types c.args.x.now.over.node) c.target.ensures.calls c.in-Err.is refl)
+pub for_clause-returns-in_err-target-clause-calls : goal.for_clause-returns-in_err-target-clause-calls
+for_clause-returns-in_err-target-clause-calls g t c =
+    writes_at g.F.FnMut (for_clause_types-parts _) (for_clause_types-parts _) (writes_stop g.F.FnMut (expr_types c.args.x.now.over.node) c.target.ensures.calls c.in_err-target.was (out_err c.from_residual.result c.from_residual.ensures.1))
 
-pub for_clause-returns-in-Err-clause-kept : goal.for_clause-returns-in-Err-clause-kept
-for_clause-returns-in-Err-clause-kept g t c =
+pub for_clause-returns-in_err-target-clause-kept : goal.for_clause-returns-in_err-target-clause-kept
+for_clause-returns-in_err-target-clause-kept g t c =
     kept.for_parts _ _ c.target.ensures.kept (kept.same _)
 
 pub for_clause-returns-clause-calls : goal.for_clause-returns-clause-calls
 for_clause-returns-clause-calls g t c =
-    writes_at g.F.FnMut (for_clause_types-parts _) (for_clause_types-parts _) (writes_then g.F.FnMut c.target.ensures.calls c.in_default.is c.expr.ensures.calls)
+    writes_at g.F.FnMut (for_clause_types-parts _) (for_clause_types-parts _) (writes_then g.F.FnMut c.target.ensures.calls c.in_ok-target.was c.expr.ensures.calls)
 
 pub for_clause-returns-clause-kept : goal.for_clause-returns-clause-kept
 for_clause-returns-clause-kept g t c =
@@ -521,24 +522,24 @@ each-loop-i-preserved g t c =
     let y = c.expr.new.x in
     let below : i < length xs = search rules in (
       search of_calls,
-      writes_more old xs i x y below c.loop-i.invariant.3 c.index-xs-i.is c.loop-i.invariant.4 g.F.FnMut (λ x. expr_types x.node) c.loop-i.invariant.1 (writes_at g.F.FnMut (ap (λ x. expr_types x.node) c.index-xs-i.is) refl c.expr.ensures.calls) c.in_default.is,
+      writes_more old xs i x y below c.loop-i.invariant.3 c.index-xs-i.is c.loop-i.invariant.4 g.F.FnMut (λ x. expr_types x.node) c.loop-i.invariant.1 (writes_at g.F.FnMut (ap (λ x. expr_types x.node) c.index-xs-i.is) refl c.expr.ensures.calls) c.in_ok-expr.was,
       both_more old xs i x y below c.loop-i.invariant.3 c.index-xs-i.is c.loop-i.invariant.4 KeepsTypes c.loop-i.invariant.2 (seen KeepsTypes c.index-xs-i.is c.expr.ensures.kept),
       lengths_more old xs i x y below c.loop-i.invariant.3 c.index-xs-i.is c.loop-i.invariant.4,
       front_more old xs i x y below c.loop-i.invariant.3 c.index-xs-i.is c.loop-i.invariant.4,
     )
 
-pub each-returns-in-Err-clause-calls : goal.each-returns-in-Err-clause-calls
-each-returns-in-Err-clause-calls g t c =
+pub each-returns-in_err-expr-clause-calls : goal.each-returns-in_err-expr-clause-calls
+each-returns-in_err-expr-clause-calls g t c =
     let old = c.args.xs.now in
     let xs = c.loop-i.xs in
     let i = c.loop-i.i in
     let x = c.index-xs-i.result in
     let y = c.expr.new.x in
     let below : i < length xs = search rules in
-    writes_stop_here old xs i x y below c.loop-i.invariant.3 c.index-xs-i.is c.loop-i.invariant.4 g.F.FnMut (λ x. expr_types x.node) c.loop-i.invariant.1 (writes_at g.F.FnMut (ap (λ x. expr_types x.node) c.index-xs-i.is) refl c.expr.ensures.calls) c.in-Err.is refl
+    writes_stop_here old xs i x y below c.loop-i.invariant.3 c.index-xs-i.is c.loop-i.invariant.4 g.F.FnMut (λ x. expr_types x.node) c.loop-i.invariant.1 (writes_at g.F.FnMut (ap (λ x. expr_types x.node) c.index-xs-i.is) refl c.expr.ensures.calls) c.in_err-expr.was (out_err c.from_residual.result c.from_residual.ensures.1)
 
-pub each-returns-in-Err-clause-kept : goal.each-returns-in-Err-clause-kept
-each-returns-in-Err-clause-kept g t c =
+pub each-returns-in_err-expr-clause-kept : goal.each-returns-in_err-expr-clause-kept
+each-returns-in_err-expr-clause-kept g t c =
     let old = c.args.xs.now in
     let xs = c.loop-i.xs in
     let i = c.loop-i.i in
@@ -576,24 +577,24 @@ pairs-loop-i-preserved g t c =
     let y = c.entry.new.x in
     let below : i < length xs = search rules in (
       search of_calls,
-      writes_more old xs i x y below c.loop-i.invariant.3 c.index-xs-i.is c.loop-i.invariant.4 g.F.FnMut (λ x. expr_types x.0.node ++ expr_types x.1.node) c.loop-i.invariant.1 (writes_at g.F.FnMut (ap (λ x. expr_types x.0.node ++ expr_types x.1.node) c.index-xs-i.is) refl c.entry.ensures.calls) c.in_default.is,
+      writes_more old xs i x y below c.loop-i.invariant.3 c.index-xs-i.is c.loop-i.invariant.4 g.F.FnMut (λ x. expr_types x.0.node ++ expr_types x.1.node) c.loop-i.invariant.1 (writes_at g.F.FnMut (ap (λ x. expr_types x.0.node ++ expr_types x.1.node) c.index-xs-i.is) refl c.entry.ensures.calls) c.in_ok-entry.was,
       both_more old xs i x y below c.loop-i.invariant.3 c.index-xs-i.is c.loop-i.invariant.4 (λ x y. KeepsTypes x.0 y.0 × KeepsTypes x.1 y.1) c.loop-i.invariant.2 (seen KeepsPair c.index-xs-i.is (c.entry.ensures.first, c.entry.ensures.second)),
       lengths_more old xs i x y below c.loop-i.invariant.3 c.index-xs-i.is c.loop-i.invariant.4,
       front_more old xs i x y below c.loop-i.invariant.3 c.index-xs-i.is c.loop-i.invariant.4,
     )
 
-pub pairs-returns-in-Err-clause-calls : goal.pairs-returns-in-Err-clause-calls
-pairs-returns-in-Err-clause-calls g t c =
+pub pairs-returns-in_err-entry-clause-calls : goal.pairs-returns-in_err-entry-clause-calls
+pairs-returns-in_err-entry-clause-calls g t c =
     let old = c.args.xs.now in
     let xs = c.loop-i.xs in
     let i = c.loop-i.i in
     let x = c.index-xs-i.result in
     let y = c.entry.new.x in
     let below : i < length xs = search rules in
-    writes_stop_here old xs i x y below c.loop-i.invariant.3 c.index-xs-i.is c.loop-i.invariant.4 g.F.FnMut (λ x. expr_types x.0.node ++ expr_types x.1.node) c.loop-i.invariant.1 (writes_at g.F.FnMut (ap (λ x. expr_types x.0.node ++ expr_types x.1.node) c.index-xs-i.is) refl c.entry.ensures.calls) c.in-Err.is refl
+    writes_stop_here old xs i x y below c.loop-i.invariant.3 c.index-xs-i.is c.loop-i.invariant.4 g.F.FnMut (λ x. expr_types x.0.node ++ expr_types x.1.node) c.loop-i.invariant.1 (writes_at g.F.FnMut (ap (λ x. expr_types x.0.node ++ expr_types x.1.node) c.index-xs-i.is) refl c.entry.ensures.calls) c.in_err-entry.was (out_err c.from_residual.result c.from_residual.ensures.1)
 
-pub pairs-returns-in-Err-clause-kept : goal.pairs-returns-in-Err-clause-kept
-pairs-returns-in-Err-clause-kept g t c =
+pub pairs-returns-in_err-entry-clause-kept : goal.pairs-returns-in_err-entry-clause-kept
+pairs-returns-in_err-entry-clause-kept g t c =
     let old = c.args.xs.now in
     let xs = c.loop-i.xs in
     let i = c.loop-i.i in
@@ -631,24 +632,24 @@ each_argument-loop-i-preserved g t c =
     let y = c.argument.new.x in
     let below : i < length xs = search rules in (
       search of_calls,
-      writes_more old xs i x y below c.loop-i.invariant.3 c.index-xs-i.is c.loop-i.invariant.4 g.F.FnMut (λ a. argument_types a.node) c.loop-i.invariant.1 (writes_at g.F.FnMut (ap (λ a. argument_types a.node) c.index-xs-i.is) refl c.argument.ensures.calls) c.in_default.is,
+      writes_more old xs i x y below c.loop-i.invariant.3 c.index-xs-i.is c.loop-i.invariant.4 g.F.FnMut (λ a. argument_types a.node) c.loop-i.invariant.1 (writes_at g.F.FnMut (ap (λ a. argument_types a.node) c.index-xs-i.is) refl c.argument.ensures.calls) c.in_ok-argument.was,
       both_more old xs i x y below c.loop-i.invariant.3 c.index-xs-i.is c.loop-i.invariant.4 (λ x y. AtPlace KeepsArgument x y × KeepsTypes (argument_expr x.node) (argument_expr y.node)) c.loop-i.invariant.2 (seen (λ x y. AtPlace KeepsArgument x y × KeepsTypes (argument_expr x.node) (argument_expr y.node)) c.index-xs-i.is (c.argument.ensures.kind, c.argument.ensures.kept)),
       lengths_more old xs i x y below c.loop-i.invariant.3 c.index-xs-i.is c.loop-i.invariant.4,
       front_more old xs i x y below c.loop-i.invariant.3 c.index-xs-i.is c.loop-i.invariant.4,
     )
 
-pub each_argument-returns-in-Err-clause-calls : goal.each_argument-returns-in-Err-clause-calls
-each_argument-returns-in-Err-clause-calls g t c =
+pub each_argument-returns-in_err-argument-clause-calls : goal.each_argument-returns-in_err-argument-clause-calls
+each_argument-returns-in_err-argument-clause-calls g t c =
     let old = c.args.xs.now in
     let xs = c.loop-i.xs in
     let i = c.loop-i.i in
     let x = c.index-xs-i.result in
     let y = c.argument.new.x in
     let below : i < length xs = search rules in
-    writes_stop_here old xs i x y below c.loop-i.invariant.3 c.index-xs-i.is c.loop-i.invariant.4 g.F.FnMut (λ a. argument_types a.node) c.loop-i.invariant.1 (writes_at g.F.FnMut (ap (λ a. argument_types a.node) c.index-xs-i.is) refl c.argument.ensures.calls) c.in-Err.is refl
+    writes_stop_here old xs i x y below c.loop-i.invariant.3 c.index-xs-i.is c.loop-i.invariant.4 g.F.FnMut (λ a. argument_types a.node) c.loop-i.invariant.1 (writes_at g.F.FnMut (ap (λ a. argument_types a.node) c.index-xs-i.is) refl c.argument.ensures.calls) c.in_err-argument.was (out_err c.from_residual.result c.from_residual.ensures.1)
 
-pub each_argument-returns-in-Err-clause-kept : goal.each_argument-returns-in-Err-clause-kept
-each_argument-returns-in-Err-clause-kept g t c =
+pub each_argument-returns-in_err-argument-clause-kept : goal.each_argument-returns-in_err-argument-clause-kept
+each_argument-returns-in_err-argument-clause-kept g t c =
     let old = c.args.xs.now in
     let xs = c.loop-i.xs in
     let i = c.loop-i.i in
@@ -686,24 +687,24 @@ each_default-loop-i-preserved g t c =
     let y = c.default.new.x in
     let below : i < length xs = search rules in (
       search of_calls,
-      writes_more old xs i x y below c.loop-i.invariant.3 c.index-xs-i.is c.loop-i.invariant.4 g.F.FnMut (λ p. default_types p.node) c.loop-i.invariant.1 (writes_at g.F.FnMut (ap (λ p. default_types p.node) c.index-xs-i.is) refl c.default.ensures.calls) c.in_default.is,
+      writes_more old xs i x y below c.loop-i.invariant.3 c.index-xs-i.is c.loop-i.invariant.4 g.F.FnMut (λ p. default_types p.node) c.loop-i.invariant.1 (writes_at g.F.FnMut (ap (λ p. default_types p.node) c.index-xs-i.is) refl c.default.ensures.calls) c.in_ok-default.was,
       both_more old xs i x y below c.loop-i.invariant.3 c.index-xs-i.is c.loop-i.invariant.4 KeepsDefault c.loop-i.invariant.2 (seen KeepsDefault c.index-xs-i.is c.default.ensures.kept),
       lengths_more old xs i x y below c.loop-i.invariant.3 c.index-xs-i.is c.loop-i.invariant.4,
       front_more old xs i x y below c.loop-i.invariant.3 c.index-xs-i.is c.loop-i.invariant.4,
     )
 
-pub each_default-returns-in-Err-clause-calls : goal.each_default-returns-in-Err-clause-calls
-each_default-returns-in-Err-clause-calls g t c =
+pub each_default-returns-in_err-default-clause-calls : goal.each_default-returns-in_err-default-clause-calls
+each_default-returns-in_err-default-clause-calls g t c =
     let old = c.args.xs.now in
     let xs = c.loop-i.xs in
     let i = c.loop-i.i in
     let x = c.index-xs-i.result in
     let y = c.default.new.x in
     let below : i < length xs = search rules in
-    writes_stop_here old xs i x y below c.loop-i.invariant.3 c.index-xs-i.is c.loop-i.invariant.4 g.F.FnMut (λ p. default_types p.node) c.loop-i.invariant.1 (writes_at g.F.FnMut (ap (λ p. default_types p.node) c.index-xs-i.is) refl c.default.ensures.calls) c.in-Err.is refl
+    writes_stop_here old xs i x y below c.loop-i.invariant.3 c.index-xs-i.is c.loop-i.invariant.4 g.F.FnMut (λ p. default_types p.node) c.loop-i.invariant.1 (writes_at g.F.FnMut (ap (λ p. default_types p.node) c.index-xs-i.is) refl c.default.ensures.calls) c.in_err-default.was (out_err c.from_residual.result c.from_residual.ensures.1)
 
-pub each_default-returns-in-Err-clause-kept : goal.each_default-returns-in-Err-clause-kept
-each_default-returns-in-Err-clause-kept g t c =
+pub each_default-returns-in_err-default-clause-kept : goal.each_default-returns-in_err-default-clause-kept
+each_default-returns-in_err-default-clause-kept g t c =
     let old = c.args.xs.now in
     let xs = c.loop-i.xs in
     let i = c.loop-i.i in
@@ -741,24 +742,24 @@ each_clause-loop-i-preserved g t c =
     let y = c.clause.new.x in
     let below : i < length xs = search rules in (
       search of_calls,
-      writes_more old xs i x y below c.loop-i.invariant.3 c.index-xs-i.is c.loop-i.invariant.4 g.F.FnMut clause_types c.loop-i.invariant.1 (writes_at g.F.FnMut (ap clause_types c.index-xs-i.is) refl c.clause.ensures.calls) c.in_default.is,
+      writes_more old xs i x y below c.loop-i.invariant.3 c.index-xs-i.is c.loop-i.invariant.4 g.F.FnMut clause_types c.loop-i.invariant.1 (writes_at g.F.FnMut (ap clause_types c.index-xs-i.is) refl c.clause.ensures.calls) c.in_ok-clause.was,
       both_more old xs i x y below c.loop-i.invariant.3 c.index-xs-i.is c.loop-i.invariant.4 KeepsClauseTypes c.loop-i.invariant.2 (seen KeepsClauseTypes c.index-xs-i.is c.clause.ensures.kept),
       lengths_more old xs i x y below c.loop-i.invariant.3 c.index-xs-i.is c.loop-i.invariant.4,
       front_more old xs i x y below c.loop-i.invariant.3 c.index-xs-i.is c.loop-i.invariant.4,
     )
 
-pub each_clause-returns-in-Err-clause-calls : goal.each_clause-returns-in-Err-clause-calls
-each_clause-returns-in-Err-clause-calls g t c =
+pub each_clause-returns-in_err-clause-clause-calls : goal.each_clause-returns-in_err-clause-clause-calls
+each_clause-returns-in_err-clause-clause-calls g t c =
     let old = c.args.xs.now in
     let xs = c.loop-i.xs in
     let i = c.loop-i.i in
     let x = c.index-xs-i.result in
     let y = c.clause.new.x in
     let below : i < length xs = search rules in
-    writes_stop_here old xs i x y below c.loop-i.invariant.3 c.index-xs-i.is c.loop-i.invariant.4 g.F.FnMut clause_types c.loop-i.invariant.1 (writes_at g.F.FnMut (ap clause_types c.index-xs-i.is) refl c.clause.ensures.calls) c.in-Err.is refl
+    writes_stop_here old xs i x y below c.loop-i.invariant.3 c.index-xs-i.is c.loop-i.invariant.4 g.F.FnMut clause_types c.loop-i.invariant.1 (writes_at g.F.FnMut (ap clause_types c.index-xs-i.is) refl c.clause.ensures.calls) c.in_err-clause.was (out_err c.from_residual.result c.from_residual.ensures.1)
 
-pub each_clause-returns-in-Err-clause-kept : goal.each_clause-returns-in-Err-clause-kept
-each_clause-returns-in-Err-clause-kept g t c =
+pub each_clause-returns-in_err-clause-clause-kept : goal.each_clause-returns-in_err-clause-clause-kept
+each_clause-returns-in_err-clause-clause-kept g t c =
     let old = c.args.xs.now in
     let xs = c.loop-i.xs in
     let i = c.loop-i.i in
@@ -796,24 +797,24 @@ all_targets-loop-i-preserved g t c =
     let y = c.target.new.x in
     let below : i < length xs = search rules in (
       search of_calls,
-      writes_more old xs i x y below c.loop-i.invariant.3 c.index-xs-i.is c.loop-i.invariant.4 g.F.FnMut (λ x. target_types x.node) c.loop-i.invariant.1 (writes_at g.F.FnMut (ap (λ x. target_types x.node) c.index-xs-i.is) refl c.target.ensures.calls) c.in_default.is,
+      writes_more old xs i x y below c.loop-i.invariant.3 c.index-xs-i.is c.loop-i.invariant.4 g.F.FnMut (λ x. target_types x.node) c.loop-i.invariant.1 (writes_at g.F.FnMut (ap (λ x. target_types x.node) c.index-xs-i.is) refl c.target.ensures.calls) c.in_ok-target.was,
       both_more old xs i x y below c.loop-i.invariant.3 c.index-xs-i.is c.loop-i.invariant.4 KeepsTargetTypes c.loop-i.invariant.2 (seen KeepsTargetTypes c.index-xs-i.is c.target.ensures.kept),
       lengths_more old xs i x y below c.loop-i.invariant.3 c.index-xs-i.is c.loop-i.invariant.4,
       front_more old xs i x y below c.loop-i.invariant.3 c.index-xs-i.is c.loop-i.invariant.4,
     )
 
-pub all_targets-returns-in-Err-clause-calls : goal.all_targets-returns-in-Err-clause-calls
-all_targets-returns-in-Err-clause-calls g t c =
+pub all_targets-returns-in_err-target-clause-calls : goal.all_targets-returns-in_err-target-clause-calls
+all_targets-returns-in_err-target-clause-calls g t c =
     let old = c.args.xs.now in
     let xs = c.loop-i.xs in
     let i = c.loop-i.i in
     let x = c.index-xs-i.result in
     let y = c.target.new.x in
     let below : i < length xs = search rules in
-    writes_stop_here old xs i x y below c.loop-i.invariant.3 c.index-xs-i.is c.loop-i.invariant.4 g.F.FnMut (λ x. target_types x.node) c.loop-i.invariant.1 (writes_at g.F.FnMut (ap (λ x. target_types x.node) c.index-xs-i.is) refl c.target.ensures.calls) c.in-Err.is refl
+    writes_stop_here old xs i x y below c.loop-i.invariant.3 c.index-xs-i.is c.loop-i.invariant.4 g.F.FnMut (λ x. target_types x.node) c.loop-i.invariant.1 (writes_at g.F.FnMut (ap (λ x. target_types x.node) c.index-xs-i.is) refl c.target.ensures.calls) c.in_err-target.was (out_err c.from_residual.result c.from_residual.ensures.1)
 
-pub all_targets-returns-in-Err-clause-kept : goal.all_targets-returns-in-Err-clause-kept
-all_targets-returns-in-Err-clause-kept g t c =
+pub all_targets-returns-in_err-target-clause-kept : goal.all_targets-returns-in_err-target-clause-kept
+all_targets-returns-in_err-target-clause-kept g t c =
     let old = c.args.xs.now in
     let xs = c.loop-i.xs in
     let i = c.loop-i.i in
@@ -1032,27 +1033,27 @@ bound-returns-in-Some-clause-kept g t c =
 
 pub clauses-returns-clause-calls : goal.clauses-returns-clause-calls
 clauses-returns-clause-calls g t c =
-    writes_then g.F.FnMut (writes_at g.F.FnMut (ap for_clause_types (sym c.deref_mut.ensures.value)) refl c.for_clause.ensures.calls) c.in_default.is c.others.ensures.calls
+    writes_then g.F.FnMut (writes_at g.F.FnMut (ap for_clause_types (sym c.deref_mut.ensures.value)) refl c.for_clause.ensures.calls) c.in_ok-for_clause.was c.others.ensures.calls
 
-pub lambda-returns-in-Err-clause-calls : goal.lambda-returns-in-Err-clause-calls
-lambda-returns-in-Err-clause-calls g t c =
-    writes_at g.F.FnMut (lambda_types-parts _) (lambda_types-parts _ ∙ ap (λ q. flat_map (λ p. own_type p.node) c.own_types.new.xs.items ++ (q ++ expr_types c.args.x.now.body.value.node)) (sym (same_defaults c.own_types.ensures.kept))) (writes_stop g.F.FnMut (flat_map (λ p. default_types p.node) c.args.x.now.params.items ++ expr_types c.args.x.now.body.value.node) c.own_types.ensures.calls c.in-Err.is refl)
+pub lambda-returns-in_err-own_types-clause-calls : goal.lambda-returns-in_err-own_types-clause-calls
+lambda-returns-in_err-own_types-clause-calls g t c =
+    writes_at g.F.FnMut (lambda_types-parts _) (lambda_types-parts _ ∙ ap (λ q. flat_map (λ p. own_type p.node) c.own_types.new.xs.items ++ (q ++ expr_types c.args.x.now.body.value.node)) (sym (same_defaults c.own_types.ensures.kept))) (writes_stop g.F.FnMut (flat_map (λ p. default_types p.node) c.args.x.now.params.items ++ expr_types c.args.x.now.body.value.node) c.own_types.ensures.calls c.in_err-own_types.was (out_err c.from_residual.result c.from_residual.ensures.1))
 
-pub lambda-returns-in-Err-clause-kept : goal.lambda-returns-in-Err-clause-kept
-lambda-returns-in-Err-clause-kept g t c =
+pub lambda-returns-in_err-own_types-clause-kept : goal.lambda-returns-in_err-own_types-clause-kept
+lambda-returns-in_err-own_types-clause-kept g t c =
     kept.lambda_parts _ _ c.own_types.new.xs.items c.own_types.ensures.block c.own_types.ensures.kept (kept.defaults_rest _) refl (kept.same _) refl
 
-pub lambda-returns-in-Err-defaults-clause-calls : goal.lambda-returns-in-Err-defaults-clause-calls
-lambda-returns-in-Err-defaults-clause-calls g t c =
-    writes_at g.F.FnMut (lambda_types-parts _) (lambda_types-parts _ ∙ ap (λ q. q ++ (flat_map (λ p. default_types p.node) c.defaults.new.xs.items ++ expr_types c.args.x.now.body.value.node)) (sym (same_own c.defaults.ensures.kept))) (writes_then g.F.FnMut c.own_types.ensures.calls c.in_default.is (writes_at g.F.FnMut (ap (λ q. q ++ expr_types c.args.x.now.body.value.node) (same_defaults c.own_types.ensures.kept)) refl (writes_stop g.F.FnMut (expr_types c.args.x.now.body.value.node) c.defaults.ensures.calls c.in-Err-defaults.is refl)))
+pub lambda-returns-in_err-defaults-clause-calls : goal.lambda-returns-in_err-defaults-clause-calls
+lambda-returns-in_err-defaults-clause-calls g t c =
+    writes_at g.F.FnMut (lambda_types-parts _) (lambda_types-parts _ ∙ ap (λ q. q ++ (flat_map (λ p. default_types p.node) c.defaults.new.xs.items ++ expr_types c.args.x.now.body.value.node)) (sym (same_own c.defaults.ensures.kept))) (writes_then g.F.FnMut c.own_types.ensures.calls c.in_ok-own_types.was (writes_at g.F.FnMut (ap (λ q. q ++ expr_types c.args.x.now.body.value.node) (same_defaults c.own_types.ensures.kept)) refl (writes_stop g.F.FnMut (expr_types c.args.x.now.body.value.node) c.defaults.ensures.calls c.in_err-defaults.was (out_err c.from_residual-in_err-defaults.result c.from_residual-in_err-defaults.ensures.1))))
 
-pub lambda-returns-in-Err-defaults-clause-kept : goal.lambda-returns-in-Err-defaults-clause-kept
-lambda-returns-in-Err-defaults-clause-kept g t c =
+pub lambda-returns-in_err-defaults-clause-kept : goal.lambda-returns-in_err-defaults-clause-kept
+lambda-returns-in_err-defaults-clause-kept g t c =
     kept.lambda_parts _ _ c.own_types.new.xs.items (blocks_then c.args.x.now.params c.own_types.new.xs c.defaults.new.xs c.own_types.ensures.block c.defaults.ensures.block) c.own_types.ensures.kept c.defaults.ensures.kept refl (kept.same _) refl
 
 pub lambda-returns-clause-calls : goal.lambda-returns-clause-calls
 lambda-returns-clause-calls g t c =
-    writes_at g.F.FnMut (lambda_types-parts _) (lambda_types-parts _ ∙ ap (λ q. q ++ (flat_map (λ p. default_types p.node) c.defaults.new.xs.items ++ expr_types c.boxed.new.x.value.node)) (sym (same_own c.defaults.ensures.kept))) (writes_then g.F.FnMut c.own_types.ensures.calls c.in_default.is (writes_at g.F.FnMut (ap (λ q. q ++ expr_types c.args.x.now.body.value.node) (same_defaults c.own_types.ensures.kept)) refl (writes_then g.F.FnMut c.defaults.ensures.calls c.in_default-defaults.is c.boxed.ensures.calls)))
+    writes_at g.F.FnMut (lambda_types-parts _) (lambda_types-parts _ ∙ ap (λ q. q ++ (flat_map (λ p. default_types p.node) c.defaults.new.xs.items ++ expr_types c.boxed.new.x.value.node)) (sym (same_own c.defaults.ensures.kept))) (writes_then g.F.FnMut c.own_types.ensures.calls c.in_ok-own_types.was (writes_at g.F.FnMut (ap (λ q. q ++ expr_types c.args.x.now.body.value.node) (same_defaults c.own_types.ensures.kept)) refl (writes_then g.F.FnMut c.defaults.ensures.calls c.in_ok-defaults.was c.boxed.ensures.calls)))
 
 pub lambda-returns-clause-kept : goal.lambda-returns-clause-kept
 lambda-returns-clause-kept g t c =

@@ -6,6 +6,7 @@ use denote.Param.{param}
 use Rattle.std.specs.Vec.{SameBlock}
 use Rattle.starlark_ast.specs.Statements.{exprs_below, inner_exprs, outer_exprs, stmts_below, stmts_layer}
 use Rattle.starlark_ast.specs.declared.ast.StmtP.TheVariants as stmt
+use Rattle.starlark_visit.proofs.GoesOn.{out_err}
 use Rattle.starlark_write.specs.Beside.{AtPlace}
 use Rattle.starlark_write.specs.Beside.{SameBox}
 use Rattle.starlark_write.specs.BesideStatements as beside
@@ -19,20 +20,20 @@ use Rattle.starlark_write.proofs.Loops.{both_more, end_in, front_more, lengths_m
 use Rattle.starlark_write.proofs.Writes.{writes_at, writes_none, writes_stop, writes_then}
 use Rattle.starlark_write.proofs.outer.+outer.Goals as goal
 
-pub outer-returns-in-Err-clause-calls : goal.outer-returns-in-Err-clause-calls
-outer-returns-in-Err-clause-calls g t c =
+pub outer-returns-in_err-exprs_err_mut-clause-calls : goal.outer-returns-in_err-exprs_err_mut-clause-calls
+outer-returns-in_err-exprs_err_mut-clause-calls g t c =
     let y = c.exprs_err_mut.new.x in
-    writes_at g.F.FnMut refl (ap (λ q. exprs_below y ++ q) (inner_kept c.exprs_err_mut.ensures.kept)) (writes_stop g.F.FnMut (inner_exprs c.args.x.now) c.exprs_err_mut.ensures.calls c.in-Err.is refl)
+    writes_at g.F.FnMut refl (ap (λ q. exprs_below y ++ q) (inner_kept c.exprs_err_mut.ensures.kept)) (writes_stop g.F.FnMut (inner_exprs c.args.x.now) c.exprs_err_mut.ensures.calls c.in_err-exprs_err_mut.was (out_err c.from_residual.result c.from_residual.ensures.1))
 
-pub outer-returns-in-Err-clause-kept : goal.outer-returns-in-Err-clause-kept
-outer-returns-in-Err-clause-kept g t c = beside.outer c.exprs_err_mut.ensures.kept (beside.head_same _) (beside.outers_rest _)
+pub outer-returns-in_err-exprs_err_mut-clause-kept : goal.outer-returns-in_err-exprs_err_mut-clause-kept
+outer-returns-in_err-exprs_err_mut-clause-kept g t c = beside.outer c.exprs_err_mut.ensures.kept (beside.head_same _) (beside.outers_rest _)
 
 pub outer-returns-clause-calls : goal.outer-returns-clause-calls
 outer-returns-clause-calls g t c =
     let x = c.args.x.now in
     let y = c.exprs_err_mut.new.x in
     let z = c.inner.new.x in
-    writes_at g.F.FnMut (ap (λ q. exprs_below x ++ q) (inner_below x ∙ ap (flat_map (λ s. outer_exprs s.node)) (sym (stmts_kept c.exprs_err_mut.ensures.kept)))) (ap₂ (λ p q. p ++ q) (exprs_kept c.inner.ensures.kept) (inner_below z)) (writes_then g.F.FnMut c.exprs_err_mut.ensures.calls c.in_default.is c.inner.ensures.calls)
+    writes_at g.F.FnMut (ap (λ q. exprs_below x ++ q) (inner_below x ∙ ap (flat_map (λ s. outer_exprs s.node)) (sym (stmts_kept c.exprs_err_mut.ensures.kept)))) (ap₂ (λ p q. p ++ q) (exprs_kept c.inner.ensures.kept) (inner_below z)) (writes_then g.F.FnMut c.exprs_err_mut.ensures.calls c.in_ok-exprs_err_mut.was c.inner.ensures.calls)
 
 pub outer-returns-clause-kept : goal.outer-returns-clause-kept
 outer-returns-clause-kept g t c = beside.outer c.exprs_err_mut.ensures.kept c.inner.ensures.kept c.inner.ensures.below
@@ -188,7 +189,7 @@ in_each-loop-i-preserved g t c =
     let y = with_node (get_or xs i x) c.outer.new.x in
     let below : i < length xs = search rules in (
       search of_calls,
-      writes_more old xs i x y below c.loop-i.invariant.4.0 c.index-xs-i.is c.loop-i.invariant.3 g.F.FnMut (λ s. outer_exprs s.node) c.loop-i.invariant.1 (writes_at g.F.FnMut (ap (λ s. outer_exprs s.node) c.index-xs-i.is) refl c.outer.ensures.calls) c.in_default.is,
+      writes_more old xs i x y below c.loop-i.invariant.4.0 c.index-xs-i.is c.loop-i.invariant.3 g.F.FnMut (λ s. outer_exprs s.node) c.loop-i.invariant.1 (writes_at g.F.FnMut (ap (λ s. outer_exprs s.node) c.index-xs-i.is) refl c.outer.ensures.calls) c.in_ok-outer.was,
       both_more old xs i x y below c.loop-i.invariant.4.0 c.index-xs-i.is c.loop-i.invariant.3 (AtPlace KeepsOuter) c.loop-i.invariant.2 (seen (AtPlace KeepsOuter) c.index-xs-i.is (record { span = refl; node = c.outer.ensures.kept })),
       front_more old xs i x y below c.loop-i.invariant.4.0 c.index-xs-i.is c.loop-i.invariant.3,
       (
@@ -197,18 +198,18 @@ in_each-loop-i-preserved g t c =
       ),
     )
 
-pub in_each-returns-in-Err-clause-calls : goal.in_each-returns-in-Err-clause-calls
-in_each-returns-in-Err-clause-calls g t c =
+pub in_each-returns-in_err-outer-clause-calls : goal.in_each-returns-in_err-outer-clause-calls
+in_each-returns-in_err-outer-clause-calls g t c =
     let old = c.args.xs.now in
     let xs = c.loop-i.xs in
     let i = c.loop-i.i in
     let x = c.index-xs-i.result in
     let y = with_node (get_or xs i x) c.outer.new.x in
     let below : i < length xs = search rules in
-    writes_stop_here old xs i x y below c.loop-i.invariant.4.0 c.index-xs-i.is c.loop-i.invariant.3 g.F.FnMut (λ s. outer_exprs s.node) c.loop-i.invariant.1 (writes_at g.F.FnMut (ap (λ s. outer_exprs s.node) c.index-xs-i.is) refl c.outer.ensures.calls) c.in-Err.is refl
+    writes_stop_here old xs i x y below c.loop-i.invariant.4.0 c.index-xs-i.is c.loop-i.invariant.3 g.F.FnMut (λ s. outer_exprs s.node) c.loop-i.invariant.1 (writes_at g.F.FnMut (ap (λ s. outer_exprs s.node) c.index-xs-i.is) refl c.outer.ensures.calls) c.in_err-outer.was (out_err c.from_residual.result c.from_residual.ensures.1)
 
-pub in_each-returns-in-Err-clause-kept : goal.in_each-returns-in-Err-clause-kept
-in_each-returns-in-Err-clause-kept g t c =
+pub in_each-returns-in_err-outer-clause-kept : goal.in_each-returns-in_err-outer-clause-kept
+in_each-returns-in_err-outer-clause-kept g t c =
     let old = c.args.xs.now in
     let xs = c.loop-i.xs in
     let i = c.loop-i.i in
@@ -243,17 +244,17 @@ pub in_list-returns-clause-kept : goal.in_list-returns-clause-kept
 in_list-returns-clause-kept g t c =
     outers_at (sym c.deref_mut.ensures.value) (take_back _ _ _ (omega (arith, outers_length c.in_each.ensures.kept, c.deref_mut.ensures.len))) c.in_each.ensures.kept
 
-pub in_pair-returns-in-Err-clause-calls : goal.in_pair-returns-in-Err-clause-calls
-in_pair-returns-in-Err-clause-calls g t c =
-    writes_at g.F.FnMut (ap (λ q. outer_exprs q.0.node ++ (outer_exprs q.1.node ++ [])) (sym c.deref_mut-parts.ensures.value)) refl (writes_stop g.F.FnMut (outer_exprs c.deref_mut-parts.result.now.1.node ++ []) c.outer.ensures.calls c.in-Err.is refl)
+pub in_pair-returns-in_err-outer-clause-calls : goal.in_pair-returns-in_err-outer-clause-calls
+in_pair-returns-in_err-outer-clause-calls g t c =
+    writes_at g.F.FnMut (ap (λ q. outer_exprs q.0.node ++ (outer_exprs q.1.node ++ [])) (sym c.deref_mut-parts.ensures.value)) refl (writes_stop g.F.FnMut (outer_exprs c.deref_mut-parts.result.now.1.node ++ []) c.outer.ensures.calls c.in_err-outer.was (out_err c.from_residual.result c.from_residual.ensures.1))
 
-pub in_pair-returns-in-Err-clause-kept : goal.in_pair-returns-in-Err-clause-kept
-in_pair-returns-in-Err-clause-kept g t c =
+pub in_pair-returns-in_err-outer-clause-kept : goal.in_pair-returns-in_err-outer-clause-kept
+in_pair-returns-in_err-outer-clause-kept g t c =
     outers_at (ap (λ q. q.0 ∷ q.1 ∷ []) (sym c.deref_mut-parts.ensures.value)) refl (beside.outers_more refl c.outer.ensures.kept (beside.outers_rest _))
 
 pub in_pair-returns-clause-calls : goal.in_pair-returns-clause-calls
 in_pair-returns-clause-calls g t c =
-    writes_at g.F.FnMut (ap (λ q. outer_exprs q.0.node ++ (outer_exprs q.1.node ++ [])) (sym c.deref_mut-parts.ensures.value)) refl (writes_then g.F.FnMut c.outer.ensures.calls c.in_default.is (writes_at g.F.FnMut (append-nil _) (append-nil _) c.outer-2.ensures.calls))
+    writes_at g.F.FnMut (ap (λ q. outer_exprs q.0.node ++ (outer_exprs q.1.node ++ [])) (sym c.deref_mut-parts.ensures.value)) refl (writes_then g.F.FnMut c.outer.ensures.calls c.in_ok-outer.was (writes_at g.F.FnMut (append-nil _) (append-nil _) c.outer-2.ensures.calls))
 
 pub in_pair-returns-clause-kept : goal.in_pair-returns-clause-kept
 in_pair-returns-clause-kept g t c =

@@ -1,4 +1,5 @@
 use Rattle.std.proofs.Common.{rules, of_calls, arith, ◌≡◌, ◌<◌, refl, ap, ◌∙◌, flat_map, length, get_or}
+use Rattle.starlark_visit.proofs.GoesOn.{out_err}
 use Rattle.starlark_write.specs.Beside.{AtPlace, Each}
 use Rattle.starlark_write.specs.BesideTypes.{KeepsOwn}
 use Rattle.starlark_write.specs.TypePlaces.{own_type}
@@ -21,24 +22,24 @@ loop-i-preserved g c =
     let y = with_node (get_or xs i x) c.own.new.x in
     let below : i < length xs = search rules in (
       search of_calls,
-      writes_more old xs i x y below c.loop-i.invariant.3 c.index-xs-i.is c.loop-i.invariant.4 g.F.FnMut (λ p. own_type p.node) c.loop-i.invariant.1 (writes_at g.F.FnMut (ap (λ p. own_type p.node) c.index-xs-i.is) refl c.own.ensures.calls) c.in_default.is,
+      writes_more old xs i x y below c.loop-i.invariant.3 c.index-xs-i.is c.loop-i.invariant.4 g.F.FnMut (λ p. own_type p.node) c.loop-i.invariant.1 (writes_at g.F.FnMut (ap (λ p. own_type p.node) c.index-xs-i.is) refl c.own.ensures.calls) c.in_ok-own.was,
       both_more old xs i x y below c.loop-i.invariant.3 c.index-xs-i.is c.loop-i.invariant.4 (AtPlace KeepsOwn) c.loop-i.invariant.2 (seen (AtPlace KeepsOwn) c.index-xs-i.is (record { span = refl; node = c.own.ensures.kept })),
       lengths_more old xs i x y below c.loop-i.invariant.3 c.index-xs-i.is c.loop-i.invariant.4,
       front_more old xs i x y below c.loop-i.invariant.3 c.index-xs-i.is c.loop-i.invariant.4,
     )
 
-pub returns-in-Err-clause-calls : goal.returns-in-Err-clause-calls
-returns-in-Err-clause-calls g c =
+pub returns-in_err-own-clause-calls : goal.returns-in_err-own-clause-calls
+returns-in_err-own-clause-calls g c =
     let old = c.args.xs.now in
     let xs = c.loop-i.xs in
     let i = c.loop-i.i in
     let x = c.index-xs-i.result in
     let y = with_node (get_or xs i x) c.own.new.x in
     let below : i < length xs = search rules in
-    writes_stop_here old xs i x y below c.loop-i.invariant.3 c.index-xs-i.is c.loop-i.invariant.4 g.F.FnMut (λ p. own_type p.node) c.loop-i.invariant.1 (writes_at g.F.FnMut (ap (λ p. own_type p.node) c.index-xs-i.is) refl c.own.ensures.calls) c.in-Err.is refl
+    writes_stop_here old xs i x y below c.loop-i.invariant.3 c.index-xs-i.is c.loop-i.invariant.4 g.F.FnMut (λ p. own_type p.node) c.loop-i.invariant.1 (writes_at g.F.FnMut (ap (λ p. own_type p.node) c.index-xs-i.is) refl c.own.ensures.calls) c.in_err-own.was (out_err c.from_residual.result c.from_residual.ensures.1)
 
-pub returns-in-Err-clause-kept : goal.returns-in-Err-clause-kept
-returns-in-Err-clause-kept g c =
+pub returns-in_err-own-clause-kept : goal.returns-in_err-own-clause-kept
+returns-in_err-own-clause-kept g c =
     let old = c.args.xs.now in
     let xs = c.loop-i.xs in
     let i = c.loop-i.i in

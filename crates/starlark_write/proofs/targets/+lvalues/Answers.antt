@@ -1,6 +1,7 @@
 use Rattle.std.proofs.Common.{rules, of_calls, arith, ◌≡◌, ◌<◌, refl, sym, ap, ◌∙◌, subst, [], ◌∷◌, flat_map, length, get_or, get_or-set_other}
 use denote.Param.{param}
 use Rattle.std.specs.Vec.{SameBlock}
+use Rattle.starlark_visit.proofs.GoesOn.{out_err}
 use Rattle.starlark_write.specs.Beside as beside
 use Rattle.starlark_write.specs.Beside.{AtPlace, KeepsPlaces, KeepsAllPlaces}
 use Rattle.starlark_ast.specs.Places.{assigned_places}
@@ -63,7 +64,7 @@ all_lvalues-loop-i-preserved g t c =
     let y = with_node (get_or xs i x) c.lvalue.new.x in
     let below : i < length xs = search rules in (
       search of_calls,
-      writes_more old xs i x y below c.loop-i.invariant.4.0 c.index-xs-i.is c.loop-i.invariant.3 g.F.FnMut (λ q. assigned_places q.node) c.loop-i.invariant.1 (writes_at g.F.FnMut (ap (λ q. assigned_places q.node) c.index-xs-i.is) refl c.lvalue.ensures.calls) c.in_default.is,
+      writes_more old xs i x y below c.loop-i.invariant.4.0 c.index-xs-i.is c.loop-i.invariant.3 g.F.FnMut (λ q. assigned_places q.node) c.loop-i.invariant.1 (writes_at g.F.FnMut (ap (λ q. assigned_places q.node) c.index-xs-i.is) refl c.lvalue.ensures.calls) c.in_ok-lvalue.was,
       both_more old xs i x y below c.loop-i.invariant.4.0 c.index-xs-i.is c.loop-i.invariant.3 (AtPlace KeepsPlaces) c.loop-i.invariant.2 (seen (AtPlace KeepsPlaces) c.index-xs-i.is (record { span = refl; node = c.lvalue.ensures.kept })),
       front_more old xs i x y below c.loop-i.invariant.4.0 c.index-xs-i.is c.loop-i.invariant.3,
       (
@@ -72,18 +73,18 @@ all_lvalues-loop-i-preserved g t c =
       ),
     )
 
-pub all_lvalues-returns-in-Err-clause-calls : goal.all_lvalues-returns-in-Err-clause-calls
-all_lvalues-returns-in-Err-clause-calls g t c =
+pub all_lvalues-returns-in_err-lvalue-clause-calls : goal.all_lvalues-returns-in_err-lvalue-clause-calls
+all_lvalues-returns-in_err-lvalue-clause-calls g t c =
     let old = c.args.xs.now in
     let xs = c.loop-i.xs in
     let i = c.loop-i.i in
     let x = c.index-xs-i.result in
     let y = with_node (get_or xs i x) c.lvalue.new.x in
     let below : i < length xs = search rules in
-    writes_stop_here old xs i x y below c.loop-i.invariant.4.0 c.index-xs-i.is c.loop-i.invariant.3 g.F.FnMut (λ q. assigned_places q.node) c.loop-i.invariant.1 (writes_at g.F.FnMut (ap (λ q. assigned_places q.node) c.index-xs-i.is) refl c.lvalue.ensures.calls) c.in-Err.is refl
+    writes_stop_here old xs i x y below c.loop-i.invariant.4.0 c.index-xs-i.is c.loop-i.invariant.3 g.F.FnMut (λ q. assigned_places q.node) c.loop-i.invariant.1 (writes_at g.F.FnMut (ap (λ q. assigned_places q.node) c.index-xs-i.is) refl c.lvalue.ensures.calls) c.in_err-lvalue.was (out_err c.from_residual.result c.from_residual.ensures.1)
 
-pub all_lvalues-returns-in-Err-clause-kept : goal.all_lvalues-returns-in-Err-clause-kept
-all_lvalues-returns-in-Err-clause-kept g t c =
+pub all_lvalues-returns-in_err-lvalue-clause-kept : goal.all_lvalues-returns-in_err-lvalue-clause-kept
+all_lvalues-returns-in_err-lvalue-clause-kept g t c =
     let old = c.args.xs.now in
     let xs = c.loop-i.xs in
     let i = c.loop-i.i in

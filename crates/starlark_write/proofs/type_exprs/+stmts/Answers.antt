@@ -4,6 +4,7 @@ use Rattle.std.specs.Vec.{SameBlock}
 use Rattle.starlark_ast.specs.Places.{maybe_place}
 use Rattle.starlark_ast.specs.declared.ast.StmtP.TheVariants as stmt
 use Rattle.starlark_ast.proofs.Tops.{count, falls-Def, falls-For, falls-If}
+use Rattle.starlark_visit.proofs.GoesOn.{out_err}
 use Rattle.starlark_write.specs.Beside.{AtPlace, SameBox}
 use Rattle.starlark_write.specs.BesideTypes as kept
 use Rattle.starlark_write.specs.BesideTypes.{KeepsAssign, KeepsDef, KeepsForStmt, KeepsReturned, KeepsStmtTypes, KeepsStmtsTypes, KeepsTargetTypes, KeepsTypes}
@@ -185,24 +186,24 @@ each_stmt-loop-i-preserved g t c =
     let y = with_node (get_or xs i x) c.stmt.new.x in
     let below : i < length xs = search rules in (
       search of_calls,
-      writes_more old xs i x y below c.loop-i.invariant.3 c.index-xs-i.is c.loop-i.invariant.4 g.F.FnMut (λ x. stmt_types x.node) c.loop-i.invariant.1 (writes_at g.F.FnMut (ap (λ x. stmt_types x.node) c.index-xs-i.is) refl c.stmt.ensures.calls) c.in_default.is,
+      writes_more old xs i x y below c.loop-i.invariant.3 c.index-xs-i.is c.loop-i.invariant.4 g.F.FnMut (λ x. stmt_types x.node) c.loop-i.invariant.1 (writes_at g.F.FnMut (ap (λ x. stmt_types x.node) c.index-xs-i.is) refl c.stmt.ensures.calls) c.in_ok-stmt.was,
       both_more old xs i x y below c.loop-i.invariant.3 c.index-xs-i.is c.loop-i.invariant.4 (AtPlace KeepsStmtTypes) c.loop-i.invariant.2 (seen (AtPlace KeepsStmtTypes) c.index-xs-i.is (record { span = refl; node = c.stmt.ensures.kept })),
       lengths_more old xs i x y below c.loop-i.invariant.3 c.index-xs-i.is c.loop-i.invariant.4,
       front_more old xs i x y below c.loop-i.invariant.3 c.index-xs-i.is c.loop-i.invariant.4,
     )
 
-pub each_stmt-returns-in-Err-clause-calls : goal.each_stmt-returns-in-Err-clause-calls
-each_stmt-returns-in-Err-clause-calls g t c =
+pub each_stmt-returns-in_err-stmt-clause-calls : goal.each_stmt-returns-in_err-stmt-clause-calls
+each_stmt-returns-in_err-stmt-clause-calls g t c =
     let old = c.args.xs.now in
     let xs = c.loop-i.xs in
     let i = c.loop-i.i in
     let x = c.index-xs-i.result in
     let y = with_node (get_or xs i x) c.stmt.new.x in
     let below : i < length xs = search rules in
-    writes_stop_here old xs i x y below c.loop-i.invariant.3 c.index-xs-i.is c.loop-i.invariant.4 g.F.FnMut (λ x. stmt_types x.node) c.loop-i.invariant.1 (writes_at g.F.FnMut (ap (λ x. stmt_types x.node) c.index-xs-i.is) refl c.stmt.ensures.calls) c.in-Err.is refl
+    writes_stop_here old xs i x y below c.loop-i.invariant.3 c.index-xs-i.is c.loop-i.invariant.4 g.F.FnMut (λ x. stmt_types x.node) c.loop-i.invariant.1 (writes_at g.F.FnMut (ap (λ x. stmt_types x.node) c.index-xs-i.is) refl c.stmt.ensures.calls) c.in_err-stmt.was (out_err c.from_residual.result c.from_residual.ensures.1)
 
-pub each_stmt-returns-in-Err-clause-kept : goal.each_stmt-returns-in-Err-clause-kept
-each_stmt-returns-in-Err-clause-kept g t c =
+pub each_stmt-returns-in_err-stmt-clause-kept : goal.each_stmt-returns-in_err-stmt-clause-kept
+each_stmt-returns-in_err-stmt-clause-kept g t c =
     let old = c.args.xs.now in
     let xs = c.loop-i.xs in
     let i = c.loop-i.i in
@@ -227,49 +228,49 @@ each_stmt-stmt-requires g t c κs within =
     let le = fewer (λ x. count x.node) c.args.xs.now c.loop-i.xs c.loop-i.i c.index-xs-i.result below c.loop-i.invariant.3 c.loop-i.invariant.4 in
     (omega (arith, le), (within.0, (within.1.0, (within.1.1.0, (within.1.1.1.0, (within.1.1.1.1.0, (within.1.1.1.1.1.0, (within.1.1.1.1.1.1.0, (within.1.1.1.1.1.1.1, c.loop-i.invariant.0)))))))))
 
-pub branch-returns-in-Err-clause-calls : goal.branch-returns-in-Err-clause-calls
-branch-returns-in-Err-clause-calls g t c =
-    writes_stop g.F.FnMut (stmt_types c.args.x.now.value.node) c.expr.ensures.calls c.in-Err.is refl
+pub branch-returns-in_err-expr-clause-calls : goal.branch-returns-in_err-expr-clause-calls
+branch-returns-in_err-expr-clause-calls g t c =
+    writes_stop g.F.FnMut (stmt_types c.args.x.now.value.node) c.expr.ensures.calls c.in_err-expr.was (out_err c.from_residual.result c.from_residual.ensures.1)
 
-pub branch-returns-in-Err-clause-kept : goal.branch-returns-in-Err-clause-kept
-branch-returns-in-Err-clause-kept g t c =
+pub branch-returns-in_err-expr-clause-kept : goal.branch-returns-in_err-expr-clause-kept
+branch-returns-in_err-expr-clause-kept g t c =
     record { span = refl; node = kept.same_stmt _ }
 
 pub branch-returns-clause-calls : goal.branch-returns-clause-calls
 branch-returns-clause-calls g t c =
-    writes_then g.F.FnMut c.expr.ensures.calls c.in_default.is c.body.ensures.calls
+    writes_then g.F.FnMut c.expr.ensures.calls c.in_ok-expr.was c.body.ensures.calls
 
-pub branches-returns-in-Err-clause-calls : goal.branches-returns-in-Err-clause-calls
-branches-returns-in-Err-clause-calls g t c =
-    writes_stop g.F.FnMut (stmt_types c.args.x.now.value.0.node ++ stmt_types c.args.x.now.value.1.node) c.expr.ensures.calls c.in-Err.is refl
+pub branches-returns-in_err-expr-clause-calls : goal.branches-returns-in_err-expr-clause-calls
+branches-returns-in_err-expr-clause-calls g t c =
+    writes_stop g.F.FnMut (stmt_types c.args.x.now.value.0.node ++ stmt_types c.args.x.now.value.1.node) c.expr.ensures.calls c.in_err-expr.was (out_err c.from_residual.result c.from_residual.ensures.1)
 
-pub branches-returns-in-Err-clause-first : goal.branches-returns-in-Err-clause-first
-branches-returns-in-Err-clause-first g t c =
+pub branches-returns-in_err-expr-clause-first : goal.branches-returns-in_err-expr-clause-first
+branches-returns-in_err-expr-clause-first g t c =
     record { span = refl; node = kept.same_stmt _ }
 
-pub branches-returns-in-Err-clause-second : goal.branches-returns-in-Err-clause-second
-branches-returns-in-Err-clause-second g t c =
+pub branches-returns-in_err-expr-clause-second : goal.branches-returns-in_err-expr-clause-second
+branches-returns-in_err-expr-clause-second g t c =
     record { span = refl; node = kept.same_stmt _ }
 
 pub branches-returns-clause-calls : goal.branches-returns-clause-calls
 branches-returns-clause-calls g t c =
-    writes_then g.F.FnMut c.expr.ensures.calls c.in_default.is c.both_stmts.ensures.calls
+    writes_then g.F.FnMut c.expr.ensures.calls c.in_ok-expr.was c.both_stmts.ensures.calls
 
-pub two_stmts-returns-in-Err-clause-calls : goal.two_stmts-returns-in-Err-clause-calls
-two_stmts-returns-in-Err-clause-calls g t c =
-    writes_stop g.F.FnMut (stmt_types c.args.y.now.node) c.stmt.ensures.calls c.in-Err.is refl
+pub two_stmts-returns-in_err-stmt-clause-calls : goal.two_stmts-returns-in_err-stmt-clause-calls
+two_stmts-returns-in_err-stmt-clause-calls g t c =
+    writes_stop g.F.FnMut (stmt_types c.args.y.now.node) c.stmt.ensures.calls c.in_err-stmt.was (out_err c.from_residual.result c.from_residual.ensures.1)
 
-pub two_stmts-returns-in-Err-clause-first : goal.two_stmts-returns-in-Err-clause-first
-two_stmts-returns-in-Err-clause-first g t c =
+pub two_stmts-returns-in_err-stmt-clause-first : goal.two_stmts-returns-in_err-stmt-clause-first
+two_stmts-returns-in_err-stmt-clause-first g t c =
     record { span = refl; node = c.stmt.ensures.kept }
 
-pub two_stmts-returns-in-Err-clause-second : goal.two_stmts-returns-in-Err-clause-second
-two_stmts-returns-in-Err-clause-second g t c =
+pub two_stmts-returns-in_err-stmt-clause-second : goal.two_stmts-returns-in_err-stmt-clause-second
+two_stmts-returns-in_err-stmt-clause-second g t c =
     record { span = refl; node = kept.same_stmt _ }
 
 pub two_stmts-returns-clause-calls : goal.two_stmts-returns-clause-calls
 two_stmts-returns-clause-calls g t c =
-    writes_then g.F.FnMut c.stmt.ensures.calls c.in_default.is c.stmt-2.ensures.calls
+    writes_then g.F.FnMut c.stmt.ensures.calls c.in_ok-stmt.was c.stmt-2.ensures.calls
 
 pub two_stmts-returns-clause-first : goal.two_stmts-returns-clause-first
 two_stmts-returns-clause-first g t c =
@@ -279,49 +280,49 @@ pub two_stmts-returns-clause-second : goal.two_stmts-returns-clause-second
 two_stmts-returns-clause-second g t c =
     record { span = refl; node = c.stmt-2.ensures.kept }
 
-pub repeat-returns-in-Err-clause-calls : goal.repeat-returns-in-Err-clause-calls
-repeat-returns-in-Err-clause-calls g t c =
-    writes_at g.F.FnMut (for_types-parts _) (for_types-parts _) (writes_stop g.F.FnMut (expr_types c.args.x.now.over.node ++ stmt_types c.args.x.now.body.value.node) c.target.ensures.calls c.in-Err.is refl)
+pub repeat-returns-in_err-target-clause-calls : goal.repeat-returns-in_err-target-clause-calls
+repeat-returns-in_err-target-clause-calls g t c =
+    writes_at g.F.FnMut (for_types-parts _) (for_types-parts _) (writes_stop g.F.FnMut (expr_types c.args.x.now.over.node ++ stmt_types c.args.x.now.body.value.node) c.target.ensures.calls c.in_err-target.was (out_err c.from_residual.result c.from_residual.ensures.1))
 
-pub repeat-returns-in-Err-clause-kept : goal.repeat-returns-in-Err-clause-kept
-repeat-returns-in-Err-clause-kept g t c =
+pub repeat-returns-in_err-target-clause-kept : goal.repeat-returns-in_err-target-clause-kept
+repeat-returns-in_err-target-clause-kept g t c =
     kept.for_stmt_parts _ _ c.target.ensures.kept (kept.same _) refl refl (kept.same_stmt _)
 
-pub repeat-returns-in-Err-expr-clause-calls : goal.repeat-returns-in-Err-expr-clause-calls
-repeat-returns-in-Err-expr-clause-calls g t c =
-    writes_at g.F.FnMut (for_types-parts _) (for_types-parts _) (writes_then g.F.FnMut c.target.ensures.calls c.in_default.is (writes_stop g.F.FnMut (stmt_types c.args.x.now.body.value.node) c.expr.ensures.calls c.in-Err-expr.is refl))
+pub repeat-returns-in_err-expr-clause-calls : goal.repeat-returns-in_err-expr-clause-calls
+repeat-returns-in_err-expr-clause-calls g t c =
+    writes_at g.F.FnMut (for_types-parts _) (for_types-parts _) (writes_then g.F.FnMut c.target.ensures.calls c.in_ok-target.was (writes_stop g.F.FnMut (stmt_types c.args.x.now.body.value.node) c.expr.ensures.calls c.in_err-expr.was (out_err c.from_residual-in_err-expr.result c.from_residual-in_err-expr.ensures.1)))
 
-pub repeat-returns-in-Err-expr-clause-kept : goal.repeat-returns-in-Err-expr-clause-kept
-repeat-returns-in-Err-expr-clause-kept g t c =
+pub repeat-returns-in_err-expr-clause-kept : goal.repeat-returns-in_err-expr-clause-kept
+repeat-returns-in_err-expr-clause-kept g t c =
     kept.for_stmt_parts _ _ c.target.ensures.kept c.expr.ensures.kept refl refl (kept.same_stmt _)
 
 pub repeat-returns-clause-calls : goal.repeat-returns-clause-calls
 repeat-returns-clause-calls g t c =
-    writes_at g.F.FnMut (for_types-parts _) (for_types-parts _) (writes_then g.F.FnMut c.target.ensures.calls c.in_default.is (writes_then g.F.FnMut c.expr.ensures.calls c.in_default-expr.is c.body.ensures.calls))
+    writes_at g.F.FnMut (for_types-parts _) (for_types-parts _) (writes_then g.F.FnMut c.target.ensures.calls c.in_ok-target.was (writes_then g.F.FnMut c.expr.ensures.calls c.in_ok-expr.was c.body.ensures.calls))
 
 pub repeat-returns-clause-kept : goal.repeat-returns-clause-kept
 repeat-returns-clause-kept g t c =
     kept.for_stmt_parts _ _ c.target.ensures.kept c.expr.ensures.kept c.body.ensures.block c.body.ensures.kept.span c.body.ensures.kept.node
 
-pub define-returns-in-Err-clause-calls : goal.define-returns-in-Err-clause-calls
-define-returns-in-Err-clause-calls g t c =
-    writes_at g.F.FnMut (def_types-parts _ ∙ sym (append_assoc (flat_map (λ p. own_type p.node) c.args.x.now.params.items) (maybe_place c.args.x.now.return_type) (flat_map (λ p. default_types p.node) c.args.x.now.params.items ++ stmt_types c.args.x.now.body.value.node))) (def_types-parts _ ∙ ap (λ q. flat_map (λ p. own_type p.node) c.defined.new.params.items ++ (maybe_place c.defined.new.returned ++ (q ++ stmt_types c.args.x.now.body.value.node))) (sym (same_defaults c.defined.ensures.params)) ∙ sym (append_assoc (flat_map (λ p. own_type p.node) c.defined.new.params.items) (maybe_place c.defined.new.returned) (flat_map (λ p. default_types p.node) c.args.x.now.params.items ++ stmt_types c.args.x.now.body.value.node))) (writes_stop g.F.FnMut (flat_map (λ p. default_types p.node) c.args.x.now.params.items ++ stmt_types c.args.x.now.body.value.node) c.defined.ensures.calls c.in-Err.is refl)
+pub define-returns-in_err-defined-clause-calls : goal.define-returns-in_err-defined-clause-calls
+define-returns-in_err-defined-clause-calls g t c =
+    writes_at g.F.FnMut (def_types-parts _ ∙ sym (append_assoc (flat_map (λ p. own_type p.node) c.args.x.now.params.items) (maybe_place c.args.x.now.return_type) (flat_map (λ p. default_types p.node) c.args.x.now.params.items ++ stmt_types c.args.x.now.body.value.node))) (def_types-parts _ ∙ ap (λ q. flat_map (λ p. own_type p.node) c.defined.new.params.items ++ (maybe_place c.defined.new.returned ++ (q ++ stmt_types c.args.x.now.body.value.node))) (sym (same_defaults c.defined.ensures.params)) ∙ sym (append_assoc (flat_map (λ p. own_type p.node) c.defined.new.params.items) (maybe_place c.defined.new.returned) (flat_map (λ p. default_types p.node) c.args.x.now.params.items ++ stmt_types c.args.x.now.body.value.node))) (writes_stop g.F.FnMut (flat_map (λ p. default_types p.node) c.args.x.now.params.items ++ stmt_types c.args.x.now.body.value.node) c.defined.ensures.calls c.in_err-defined.was (out_err c.from_residual.result c.from_residual.ensures.1))
 
-pub define-returns-in-Err-clause-kept : goal.define-returns-in-Err-clause-kept
-define-returns-in-Err-clause-kept g t c =
+pub define-returns-in_err-defined-clause-kept : goal.define-returns-in_err-defined-clause-kept
+define-returns-in_err-defined-clause-kept g t c =
     kept.def_parts _ _ c.defined.new.params.items refl c.defined.ensures.block c.defined.ensures.params (kept.defaults_rest _) c.defined.ensures.returned refl refl (kept.same_stmt _) refl
 
-pub define-returns-in-Err-defaults-clause-calls : goal.define-returns-in-Err-defaults-clause-calls
-define-returns-in-Err-defaults-clause-calls g t c =
-    writes_at g.F.FnMut (def_types-parts _ ∙ sym (append_assoc (flat_map (λ p. own_type p.node) c.args.x.now.params.items) (maybe_place c.args.x.now.return_type) (flat_map (λ p. default_types p.node) c.args.x.now.params.items ++ stmt_types c.args.x.now.body.value.node))) (def_types-parts _ ∙ ap (λ q. q ++ (maybe_place c.defined.new.returned ++ (flat_map (λ p. default_types p.node) c.defaults.new.xs.items ++ stmt_types c.args.x.now.body.value.node))) (sym (same_own c.defaults.ensures.kept)) ∙ sym (append_assoc (flat_map (λ p. own_type p.node) c.defined.new.params.items) (maybe_place c.defined.new.returned) (flat_map (λ p. default_types p.node) c.defaults.new.xs.items ++ stmt_types c.args.x.now.body.value.node))) (writes_then g.F.FnMut c.defined.ensures.calls c.in_default.is (writes_at g.F.FnMut (ap (λ q. q ++ stmt_types c.args.x.now.body.value.node) (same_defaults c.defined.ensures.params)) refl (writes_stop g.F.FnMut (stmt_types c.args.x.now.body.value.node) c.defaults.ensures.calls c.in-Err-defaults.is refl)))
+pub define-returns-in_err-defaults-clause-calls : goal.define-returns-in_err-defaults-clause-calls
+define-returns-in_err-defaults-clause-calls g t c =
+    writes_at g.F.FnMut (def_types-parts _ ∙ sym (append_assoc (flat_map (λ p. own_type p.node) c.args.x.now.params.items) (maybe_place c.args.x.now.return_type) (flat_map (λ p. default_types p.node) c.args.x.now.params.items ++ stmt_types c.args.x.now.body.value.node))) (def_types-parts _ ∙ ap (λ q. q ++ (maybe_place c.defined.new.returned ++ (flat_map (λ p. default_types p.node) c.defaults.new.xs.items ++ stmt_types c.args.x.now.body.value.node))) (sym (same_own c.defaults.ensures.kept)) ∙ sym (append_assoc (flat_map (λ p. own_type p.node) c.defined.new.params.items) (maybe_place c.defined.new.returned) (flat_map (λ p. default_types p.node) c.defaults.new.xs.items ++ stmt_types c.args.x.now.body.value.node))) (writes_then g.F.FnMut c.defined.ensures.calls c.in_ok-defined.was (writes_at g.F.FnMut (ap (λ q. q ++ stmt_types c.args.x.now.body.value.node) (same_defaults c.defined.ensures.params)) refl (writes_stop g.F.FnMut (stmt_types c.args.x.now.body.value.node) c.defaults.ensures.calls c.in_err-defaults.was (out_err c.from_residual-in_err-defaults.result c.from_residual-in_err-defaults.ensures.1))))
 
-pub define-returns-in-Err-defaults-clause-kept : goal.define-returns-in-Err-defaults-clause-kept
-define-returns-in-Err-defaults-clause-kept g t c =
+pub define-returns-in_err-defaults-clause-kept : goal.define-returns-in_err-defaults-clause-kept
+define-returns-in_err-defaults-clause-kept g t c =
     kept.def_parts _ _ c.defined.new.params.items refl (blocks_then c.args.x.now.params c.defined.new.params c.defaults.new.xs c.defined.ensures.block c.defaults.ensures.block) c.defined.ensures.params c.defaults.ensures.kept c.defined.ensures.returned refl refl (kept.same_stmt _) refl
 
 pub define-returns-clause-calls : goal.define-returns-clause-calls
 define-returns-clause-calls g t c =
-    writes_at g.F.FnMut (def_types-parts _ ∙ sym (append_assoc (flat_map (λ p. own_type p.node) c.args.x.now.params.items) (maybe_place c.args.x.now.return_type) (flat_map (λ p. default_types p.node) c.args.x.now.params.items ++ stmt_types c.args.x.now.body.value.node))) (def_types-parts _ ∙ ap (λ q. q ++ (maybe_place c.defined.new.returned ++ (flat_map (λ p. default_types p.node) c.defaults.new.xs.items ++ stmt_types c.body.new.x.value.node))) (sym (same_own c.defaults.ensures.kept)) ∙ sym (append_assoc (flat_map (λ p. own_type p.node) c.defined.new.params.items) (maybe_place c.defined.new.returned) (flat_map (λ p. default_types p.node) c.defaults.new.xs.items ++ stmt_types c.body.new.x.value.node))) (writes_then g.F.FnMut c.defined.ensures.calls c.in_default.is (writes_at g.F.FnMut (ap (λ q. q ++ stmt_types c.args.x.now.body.value.node) (same_defaults c.defined.ensures.params)) refl (writes_then g.F.FnMut c.defaults.ensures.calls c.in_default-defaults.is c.body.ensures.calls)))
+    writes_at g.F.FnMut (def_types-parts _ ∙ sym (append_assoc (flat_map (λ p. own_type p.node) c.args.x.now.params.items) (maybe_place c.args.x.now.return_type) (flat_map (λ p. default_types p.node) c.args.x.now.params.items ++ stmt_types c.args.x.now.body.value.node))) (def_types-parts _ ∙ ap (λ q. q ++ (maybe_place c.defined.new.returned ++ (flat_map (λ p. default_types p.node) c.defaults.new.xs.items ++ stmt_types c.body.new.x.value.node))) (sym (same_own c.defaults.ensures.kept)) ∙ sym (append_assoc (flat_map (λ p. own_type p.node) c.defined.new.params.items) (maybe_place c.defined.new.returned) (flat_map (λ p. default_types p.node) c.defaults.new.xs.items ++ stmt_types c.body.new.x.value.node))) (writes_then g.F.FnMut c.defined.ensures.calls c.in_ok-defined.was (writes_at g.F.FnMut (ap (λ q. q ++ stmt_types c.args.x.now.body.value.node) (same_defaults c.defined.ensures.params)) refl (writes_then g.F.FnMut c.defaults.ensures.calls c.in_ok-defaults.was c.body.ensures.calls)))
 
 pub define-returns-clause-kept : goal.define-returns-clause-kept
 define-returns-clause-kept g t c =

@@ -1,5 +1,6 @@
 use Rattle.std.proofs.Common.{rules, of_calls, arith, ◌≡◌, ◌<◌, refl, sym, ap, ◌∙◌, [], ◌∷◌, flat_map, length}
 use Rattle.starlark_visit.proofs.Lifted.{singles}
+use Rattle.starlark_visit.proofs.GoesOn.{out_err}
 use Rattle.starlark_write.proofs.Loops.{front_more, lengths_more, whole, writes_more, writes_stop_here}
 use Rattle.starlark_write.proofs.Writes.{writes_at, writes_last}
 use Rattle.starlark_write.proofs.visit_mut.each.Goals as goal
@@ -13,13 +14,13 @@ loop-i-preserved g c =
     let y = c.f.new.arg2 in
     let below : i < length xs = search rules in (
       search of_calls,
-      writes_more old xs i x y below c.loop-i.invariant.2 c.index-xs-i.is c.loop-i.invariant.3 g.F.FnMut (λ x. x ∷ []) c.loop-i.invariant.1 (writes_last g.F.FnMut c.f.ensures (sym c.index-xs-i.is) refl) c.in_default.is,
+      writes_more old xs i x y below c.loop-i.invariant.2 c.index-xs-i.is c.loop-i.invariant.3 g.F.FnMut (λ x. x ∷ []) c.loop-i.invariant.1 (writes_last g.F.FnMut c.f.ensures (sym c.index-xs-i.is) refl) c.in_ok-f.was,
       lengths_more old xs i x y below c.loop-i.invariant.2 c.index-xs-i.is c.loop-i.invariant.3,
       front_more old xs i x y below c.loop-i.invariant.2 c.index-xs-i.is c.loop-i.invariant.3,
     )
 
-pub returns-in-Err-clause-calls : goal.returns-in-Err-clause-calls
-returns-in-Err-clause-calls g c =
+pub returns-in_err-f-clause-calls : goal.returns-in_err-f-clause-calls
+returns-in_err-f-clause-calls g c =
     let old = c.args.xs.now in
     let xs = c.loop-i.xs in
     let i = c.loop-i.i in
@@ -27,7 +28,7 @@ returns-in-Err-clause-calls g c =
     let y = c.f.new.arg2 in
     let below : i < length xs = search rules in
     writes_at g.F.FnMut (sym (singles _)) (sym (singles _))
-    (writes_stop_here old xs i x y below c.loop-i.invariant.2 c.index-xs-i.is c.loop-i.invariant.3 g.F.FnMut (λ x. x ∷ []) c.loop-i.invariant.1 (writes_last g.F.FnMut c.f.ensures (sym c.index-xs-i.is) refl) c.in-Err.is refl)
+    (writes_stop_here old xs i x y below c.loop-i.invariant.2 c.index-xs-i.is c.loop-i.invariant.3 g.F.FnMut (λ x. x ∷ []) c.loop-i.invariant.1 (writes_last g.F.FnMut c.f.ensures (sym c.index-xs-i.is) refl) c.in_err-f.was (out_err c.from_residual.result c.from_residual.ensures.1))
 
 pub returns-clause-calls : goal.returns-clause-calls
 returns-clause-calls g c =

@@ -1,4 +1,5 @@
 use Rattle.std.proofs.Common.{rules, of_calls, arith, ◌≡◌, ◌<◌, refl, sym, ap, ◌∙◌, subst, flat_map, length}
+use Rattle.starlark_visit.proofs.GoesOn.{out_err}
 use Rattle.starlark_write.specs.Beside.{Each}
 use Rattle.starlark_write.proofs.Loops.{both_more, both_rest, end_in, front_more, lengths_more, stop_in, whole, writes_more, writes_stop_here}
 use Rattle.starlark_write.proofs.Loops as loops
@@ -17,24 +18,24 @@ loop-i-preserved g c =
     let y = c.visit_expr_err_mut.new.self in
     let below : i < length xs = search rules in (
       search of_calls,
-      writes_more old xs i x y below c.loop-i.invariant.3 c.index-xs-i.is c.loop-i.invariant.4 g.F.FnMut g.L.VisitExprMut.parts c.loop-i.invariant.1 (writes_at g.F.FnMut (ap g.L.VisitExprMut.parts c.index-xs-i.is) refl c.visit_expr_err_mut.ensures.calls) c.in_default.is,
+      writes_more old xs i x y below c.loop-i.invariant.3 c.index-xs-i.is c.loop-i.invariant.4 g.F.FnMut g.L.VisitExprMut.parts c.loop-i.invariant.1 (writes_at g.F.FnMut (ap g.L.VisitExprMut.parts c.index-xs-i.is) refl c.visit_expr_err_mut.ensures.calls) c.in_ok-visit_expr_err_mut.was,
       both_more old xs i x y below c.loop-i.invariant.3 c.index-xs-i.is c.loop-i.invariant.4 g.L.VisitExprMut.keeps c.loop-i.invariant.2 (subst (λ q. g.L.VisitExprMut.keeps q y) (sym c.index-xs-i.is) c.visit_expr_err_mut.ensures.kept),
       lengths_more old xs i x y below c.loop-i.invariant.3 c.index-xs-i.is c.loop-i.invariant.4,
       front_more old xs i x y below c.loop-i.invariant.3 c.index-xs-i.is c.loop-i.invariant.4,
     )
 
-pub returns-in-Err-clause-calls : goal.returns-in-Err-clause-calls
-returns-in-Err-clause-calls g c =
+pub returns-in_err-visit_expr_err_mut-clause-calls : goal.returns-in_err-visit_expr_err_mut-clause-calls
+returns-in_err-visit_expr_err_mut-clause-calls g c =
     let old = c.args.xs.now in
     let xs = c.loop-i.xs in
     let i = c.loop-i.i in
     let x = c.index-xs-i.result in
     let y = c.visit_expr_err_mut.new.self in
     let below : i < length xs = search rules in
-    writes_stop_here old xs i x y below c.loop-i.invariant.3 c.index-xs-i.is c.loop-i.invariant.4 g.F.FnMut g.L.VisitExprMut.parts c.loop-i.invariant.1 (writes_at g.F.FnMut (ap g.L.VisitExprMut.parts c.index-xs-i.is) refl c.visit_expr_err_mut.ensures.calls) c.in-Err.is refl
+    writes_stop_here old xs i x y below c.loop-i.invariant.3 c.index-xs-i.is c.loop-i.invariant.4 g.F.FnMut g.L.VisitExprMut.parts c.loop-i.invariant.1 (writes_at g.F.FnMut (ap g.L.VisitExprMut.parts c.index-xs-i.is) refl c.visit_expr_err_mut.ensures.calls) c.in_err-visit_expr_err_mut.was (out_err c.from_residual.result c.from_residual.ensures.1)
 
-pub returns-in-Err-clause-kept : goal.returns-in-Err-clause-kept
-returns-in-Err-clause-kept g c =
+pub returns-in_err-visit_expr_err_mut-clause-kept : goal.returns-in_err-visit_expr_err_mut-clause-kept
+returns-in_err-visit_expr_err_mut-clause-kept g c =
     let old = c.args.xs.now in
     let xs = c.loop-i.xs in
     let i = c.loop-i.i in
