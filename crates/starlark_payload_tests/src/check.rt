@@ -14,16 +14,15 @@ pub(crate) fn holds(rt: &impl Abort, found: bool)
 }
 
 /// Both are equal.
-pub(crate) fn equal<T: PartialEq + Debug + Drop>(rt: &impl Abort, found: T, wanted: T) {
+pub(crate) fn equal<T: PartialEq + Debug + Drop>(rt: &impl Abort, found: T, wanted: T)
+    ensures { T.PartialEq.eq found wanted ≡ true }
+{
     assert_eq!(rt; found, wanted);
 }
 
 /// Both are equal, in a row of a table.
-pub(crate) fn equal_in<T: PartialEq + Debug + Drop>(
-    rt: &impl Abort,
-    row: &str,
-    found: T,
-    wanted: T,
-) {
+pub(crate) fn equal_in<T: PartialEq + Debug + Drop>(rt: &impl Abort, row: &str, found: T, wanted: T)
+    ensures { T.PartialEq.eq found wanted ≡ true }
+{
     assert_eq!(rt; found, wanted, "{row}");
 }
