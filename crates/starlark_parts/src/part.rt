@@ -193,7 +193,7 @@ fn read_text(
     ensures text { IfOk result (λ p. text_of p ≡ text.now) }
     ensures ok { IfOk result (λ p. IsPart dialect.now p) }
     ensures err { IfErr result (λ f. RefusesText dialect.now text.now f) }
-    ensures cost { SpentOn text.now result cost.new }
+    ensures cost { SpentOn dialect.now text.now result cost.new }
 {
     good_trees();
     let content = String::from_str(alloc, text)?;
@@ -225,7 +225,7 @@ pub(crate) fn read_part(
     requires cost { cost.old ≡ nothing_read }
     ensures ok { IfOk result (λ p. IsRead dialect.now room bytes.now p) }
     ensures err { IfErr result (λ f. RefusesBytes dialect.now room bytes.now f) }
-    ensures cost { SpentOn bytes.now result cost.new }
+    ensures cost { SpentOn dialect.now bytes.now result cost.new }
 {
     let Ok(text) = str::from_utf8(bytes) else {
         return Err(PartFault::Utf8);

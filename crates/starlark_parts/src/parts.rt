@@ -96,7 +96,7 @@ impl Parts {
         ensures edit { Answers self.old (inserts index bytes.now) result self.new.texts }
         ensures limit { self.new.limit ≡ self.old.limit }
         ensures dialect { self.new.dialect ≡ self.old.dialect }
-        ensures cost { Spends (inserts index bytes.now) result self.new.cost }
+        ensures cost { Spends self.old.dialect (inserts index bytes.now) result self.new.cost }
     {
         self.cost = Cost::NONE;
         if index > self.parts.len() {
@@ -115,7 +115,7 @@ impl Parts {
         ensures edit { Answers self.old (replaces index bytes.now) result self.new.texts }
         ensures limit { self.new.limit ≡ self.old.limit }
         ensures dialect { self.new.dialect ≡ self.old.dialect }
-        ensures cost { Spends (replaces index bytes.now) result self.new.cost }
+        ensures cost { Spends self.old.dialect (replaces index bytes.now) result self.new.cost }
     {
         self.cost = Cost::NONE;
         if index >= self.parts.len() {
@@ -134,7 +134,7 @@ impl Parts {
         ensures edit { Answers self.old (removes index) result self.new.texts }
         ensures limit { self.new.limit ≡ self.old.limit }
         ensures dialect { self.new.dialect ≡ self.old.dialect }
-        ensures cost { Spends (removes index) result self.new.cost }
+        ensures cost { Spends self.old.dialect (removes index) result self.new.cost }
     {
         self.cost = Cost::NONE;
         if index >= self.parts.len() {
@@ -151,7 +151,7 @@ impl Parts {
         ensures edit { Answers self.old (moves from to) result self.new.texts }
         ensures limit { self.new.limit ≡ self.old.limit }
         ensures dialect { self.new.dialect ≡ self.old.dialect }
-        ensures cost { Spends (moves from to) result self.new.cost }
+        ensures cost { Spends self.old.dialect (moves from to) result self.new.cost }
     {
         self.cost = Cost::NONE;
         if from >= self.parts.len() {

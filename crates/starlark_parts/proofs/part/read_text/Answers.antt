@@ -19,5 +19,5 @@ returns-in-Ok-clause-ok c =
 
 pub returns-in-Ok-clause-cost : goal.returns-in-Ok-clause-cost
 returns-in-Ok-clause-cost c =
-    let whole : IsWhole (string_bytes c.in_ok-content.content) c.parse_counted-module.result.1 = subst (λ (r : Result AstModule EvalException). Costs (string_bytes c.in_ok-content.content) r c.parse_counted-module.result.1) c.in-Ok.is c.parse_counted-module.ensures.cost in
-    whole_spent c.args.text.now (file_of c.in-Ok.module).source c.closed.result c.parse_counted-module.result.1 (subst (λ t. IsWhole t c.parse_counted-module.result.1) c.in_ok-content.ensures.ok whole) c.closed.ensures.err
+    let whole : IsWhole (string_bytes c.in_ok-content.content) c.parse_counted-module.result.1 = subst (λ (r : Result AstModule EvalException). Costs c.args.dialect.now (string_bytes c.in_ok-content.content) r c.parse_counted-module.result.1) c.in-Ok.is c.parse_counted-module.ensures.cost in
+    whole_spent c.args.dialect.now c.args.text.now (file_of c.in-Ok.module).source c.closed.result c.parse_counted-module.result.1 (subst (λ t. IsWhole t c.parse_counted-module.result.1) c.in_ok-content.ensures.ok whole) c.closed.ensures.err

@@ -1,8 +1,9 @@
-use Rattle.std.proofs.Common.{◌∙◌, ap, arith, refl}
+use Rattle.std.proofs.Common.{◌∙◌, ap, arith, refl, subst}
 use Rattle.std.proofs.lemmas.Result.{err_from_is_err_and}
 use Rattle.starlark_parts.specs.Held.{texts_of}
 use Rattle.starlark_parts.proofs.Keeping.{held_insert, insert_lacks, insert_refused, insert_taken, insert_texts, no_insert, texts_are}
 use Rattle.starlark_parts.proofs.Spending.{whole_bounded}
+use Rattle.starlark_parts.specs.Spent.{SpentUntil}
 use Rattle.starlark_parts.proofs.parts.Parts.insert.Goals as goal
 
 pub returns-then-index-len-clause-edit : goal.returns-then-index-len-clause-edit
@@ -33,7 +34,7 @@ returns-clause-edit c = (
 pub returns-in_err-part-clause-cost : goal.returns-in_err-part-clause-cost
 returns-in_err-part-clause-cost c =
     let p = err_from_is_err_and c.from_residual.result c.from_residual.ensures.1 in
-    rw (p.1, p.2) c.in_err-part.ensures.cost
+    rw (p.1, p.2) (subst (λ v. SpentUntil v.dialect c.args.bytes.now c.in_err-part.field-0.0 c.read_part.new.cost) c.self.view_is c.in_err-part.ensures.cost)
 
 pub returns-in_err-put-clause-cost : goal.returns-in_err-put-clause-cost
 returns-in_err-put-clause-cost c =
