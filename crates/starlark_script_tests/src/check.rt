@@ -21,6 +21,8 @@ pub(crate) fn count(rt: &impl Abort, found: usize, wanted: usize)
 }
 
 /// Both are equal.
-pub(crate) fn equal<T: PartialEq + Debug + Drop>(rt: &impl Abort, found: T, wanted: T) {
+pub(crate) fn equal<T: PartialEq + Debug + Drop>(rt: &impl Abort, found: T, wanted: T)
+    ensures { T.PartialEq.eq found wanted ≡ true }
+{
     assert_eq!(rt; found, wanted);
 }
