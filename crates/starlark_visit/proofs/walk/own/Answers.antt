@@ -1,4 +1,4 @@
-use Rattle.std.proofs.Common.{refl, ap, ◌∙◌, [], ◌∷◌}
+use Rattle.std.proofs.Common.{ap, ◌∙◌, [], ◌∷◌}
 use Rattle.starlark_ast.specs.Calls.{lent}
 use Rattle.starlark_ast.specs.Places.{target_places}
 use Rattle.starlark_ast.specs.Statements.{exprs_below, exprs_layer}

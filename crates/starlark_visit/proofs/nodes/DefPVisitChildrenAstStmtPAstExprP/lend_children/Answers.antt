@@ -1,4 +1,4 @@
-use Rattle.std.proofs.Common.{refl, sym, ap, [], ◌∷◌}
+use Rattle.std.proofs.Common.{sym, ap, [], ◌∷◌}
 use Rattle.starlark_ast.specs.Nodes.{statement}
 use Rattle.starlark_visit.proofs.GoesOn.{out_err}
 use Rattle.starlark_visit.proofs.Steps.{steps_at, steps_one, steps_stop, steps_then}

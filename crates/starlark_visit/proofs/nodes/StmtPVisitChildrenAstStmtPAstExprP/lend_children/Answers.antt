@@ -1,4 +1,3 @@
-use Rattle.std.proofs.Common.{refl}
 use Rattle.starlark_visit.proofs.GoesOn.{out_err}
 use Rattle.starlark_visit.proofs.Steps.{steps_stop, steps_then}
 use Rattle.starlark_visit.proofs.nodes.StmtPVisitChildrenAstStmtPAstExprP.lend_children.Goals as goal

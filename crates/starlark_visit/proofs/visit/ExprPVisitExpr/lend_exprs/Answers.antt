@@ -1,4 +1,4 @@
-use Rattle.std.proofs.Common.{rules, refl, sym, ap, ◌∙◌, [], ◌∷◌, ◌++◌, flat_map}
+use Rattle.std.proofs.Common.{rules, sym, ap, ◌∙◌, [], ◌∷◌, ◌++◌, flat_map}
 use Rattle.starlark_ast.specs.Calls.{lent}
 use Rattle.starlark_visit.proofs.Children.{children-signed}
 use Rattle.starlark_visit.proofs.GoesOn.{out_err}

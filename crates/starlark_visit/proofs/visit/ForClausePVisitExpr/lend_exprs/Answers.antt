@@ -1,4 +1,4 @@
-use Rattle.std.proofs.Common.{refl, [], ◌∷◌}
+use Rattle.std.proofs.Common.{[], ◌∷◌}
 use Rattle.starlark_ast.specs.Calls.{lent}
 use Rattle.starlark_ast.specs.Places.{target_places}
 use Rattle.starlark_visit.proofs.GoesOn.{out_err}

@@ -1,4 +1,4 @@
-use Rattle.std.proofs.Common.{refl, sym, ap, ◌++◌, flat_map}
+use Rattle.std.proofs.Common.{sym, ap, ◌++◌, flat_map}
 use Rattle.starlark_ast.specs.Calls.{lent}
 use Rattle.starlark_ast.specs.declared.ast.DefP.{out-DefP}
 use Rattle.starlark_ast.specs.Places.{maybe_type_place, parameter_places}
