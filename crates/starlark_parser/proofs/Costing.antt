@@ -56,7 +56,7 @@ whole_cost {text} {source} {l} {c} {d} cap q x f h few a r z b =
 pub record Stops (dialect : Dialect) (l : Lexed) (c : Cost) : Type 0 where
   pub each : counted (suc (length l.items)) ≤ c.asks + (left_over (answer_to dialect (uncommented l).items) + length (comments_in l.items))
   pub few : counted (c.asks + left_over (answer_to dialect (uncommented l).items)) ≤ counted (suc (length l.items))
-  pub reached : reached (last_end 0 (uncommented l).items) (answer_to dialect (uncommented l).items) ≤ c.reads
+  pub reached : reached dialect (uncommented l).items ≤ c.reads
 
 -- where a reason is found, with its place and without it
 same_last : (f : Fault) → refused.is_last (Some f) ≡ is_last (reason f)

@@ -4,7 +4,7 @@ use Rattle.starlark_place.specs.Diagnostic.{inner_of}
 use Rattle.starlark_lexer.specs.Items.{Lexed}
 use Rattle.starlark_lexer.specs.Lex.{Lex, start}
 use Rattle.starlark_lexer.specs.declared.dialect.Dialect.{Dialect}
-use Rattle.starlark_grammar.specs.Language.{last_end, uncommented}
+use Rattle.starlark_grammar.specs.Language.{uncommented}
 use Rattle.starlark_read.specs.Stops.{answer_to, left_over, reached}
 use Rattle.starlark_read.specs.declared.cost.Cost.{Cost}
 use Rattle.starlark_parser.specs.declared.fault.EvalException.{EvalException}
@@ -27,7 +27,7 @@ is_last (of_lexer e) = true
 is_last of_end = true
 is_last _ = false
 
--- It was read until it was refused for that reason: each token up to the one that stands ahead there was asked for, and none behind it; nothing is asked for behind the fault or the end, and for these there was an ask for each lexeme and one more. The looks reach the end of a token that cannot stand where it does, and where all tokens were read the end of the last one.
+-- It was read until it was refused for that reason: each token up to the one that stands ahead there was asked for, and besides at most one lexeme for each comment of the text; nothing is asked for behind the fault or the end, and for these there was an ask for each lexeme and one more. The looks reach the end of the token that stands ahead there, or of the last one where all were read.
 pub record IsPartly (d : Dialect) (text : List ℕ) (r : Reason) (c : Cost) : Type 0 where
   pub lexed : Lexed
   pub lexes : Lex start text lexed
@@ -37,7 +37,7 @@ pub record IsPartly (d : Dialect) (text : List ℕ) (r : Reason) (c : Cost) : Ty
   pub behind : c.asks + left_over (answer_to d (uncommented lexed).items) ≤ suc (length lexed.items)
   pub last : is_last r ≡ true → c.asks ≡ suc (length lexed.items)
   pub few : c.asks ≤ 2 * length text + 2
-  pub reads : reached (last_end 0 (uncommented lexed).items) (answer_to d (uncommented lexed).items) ≤ c.reads
+  pub reads : reached d (uncommented lexed).items ≤ c.reads
   pub bounded : c.reads ≤ 16 * length text + 16
 
 -- Memory ran out: what was spent until then is no more than such a text takes.

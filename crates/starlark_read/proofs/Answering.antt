@@ -1,5 +1,6 @@
 -- What a whole text is told.
-use Rattle.std.proofs.Common.{◌≡◌, ◌≢◌, ◌≤◌, ℕ, length, arith, true, false, List, [], ◌∷◌, Option, Some, None, Result, Ok, Err, IfOk, refl, ap, sym, subst, ◌∙◌}
+use Rattle.std.proofs.Common.{◌≡◌, ◌≢◌, ◌≤◌, ℕ, ◌-◌, ◌++◌, drop, length, arith, true, false, List, [], ◌∷◌, Option, Some, None, Result, Ok, Err, IfOk, refl, ap, sym, subst, ◌∙◌}
+use Rattle.std.proofs.lemmas.List.{length-append}
 use Rattle.starlark_place.specs.declared.pos.Spanned.{Spanned}
 use Rattle.starlark_lexer.specs.Items.{Item, Stop, Lexed}
 use Rattle.starlark_lexer.specs.Lex.{Lex, start}
@@ -18,7 +19,7 @@ use Rattle.starlark_read.specs.Asides.{Aside}
 use Rattle.starlark_read.specs.Reads.{Left, left_of, Answers, Goes, SameEnd, Sticks}
 use Rattle.starlark_read.specs.declared.refused.Refused.{Refused}
 use Rattle.starlark_read.specs.Refused.{fault_ahead, fault_at, fault_of, is_last}
-use Rattle.starlark_read.specs.Stops.{answer_to, end_ahead, left_over, reached}
+use Rattle.starlark_read.specs.Stops.{answer_to, end_ahead, last_of, left_over, reached, reached_by}
 use Rattle.starlark_grammar.proofs.Steps.{runs_end}
 use Rattle.starlark_grammar.proofs.Refusals.{told, told_of, Answered, a_program, a_refusal, answered}
 use Rattle.starlark_grammar.proofs.Decided.{program_judge}
@@ -100,9 +101,9 @@ settled_left : (raw : Statement) (o : Option Finding) → left_over (settle raw 
 settled_left raw None = refl
 settled_left raw (Some f) = refl
 
-settled_end : (e : ℕ) (raw : Statement) (o : Option Finding) → reached e (settle raw o) ≡ e
-settled_end e raw None = refl
-settled_end e raw (Some f) = refl
+settled_end : (xs : List Item) (raw : Statement) (o : Option Finding) → reached_by xs (settle raw o) ≡ last_end 0 xs
+settled_end xs raw None = refl
+settled_end xs raw (Some f) = refl
 
 pub left_stuck : {d : Dialect} {l : Lexed} {a : Aside} {ts us : Left} → ts ≡ left_of 0 l a → Sticks d (at_line (outer no_statements) ts.last) ts us → length us.items ≡ left_over (answer_to d l.items)
 left_stuck {d} {us = us} w p = sym (ap left_over (subst (λ z. Sticks d (at_line (outer no_statements) z.last) z us) w p).same)
@@ -121,20 +122,32 @@ ends_there (x ∷ xs) m e h = refl
 at_most : {m n : ℕ} → m ≡ n → m ≤ n
 at_most {m} {n} h = omega (arith, h)
 
-pub reached_stuck : {d : Dialect} {l : Lexed} {a : Aside} {ts us : Left} → ts ≡ left_of 0 l a → Sticks d (at_line (outer no_statements) ts.last) ts us → reached (last_end 0 l.items) (answer_to d l.items) ≤ end_ahead us.last us.items
+-- the tokens that are left, by their number
+dropped : (xs us : List Item) → drop (length xs) (xs ++ us) ≡ us
+dropped [] us = refl
+dropped (x ∷ xs) us = dropped xs us
+
+passed_over : (xs us : List Item) → length (xs ++ us) - length us ≡ length xs
+passed_over xs us = let p = length-append xs us in omega (arith, p)
+
+last_left : (xs us : List Item) → last_of (length us) (xs ++ us) ≡ us
+last_left xs us = ap (λ n. drop n (xs ++ us)) (passed_over xs us) ∙ dropped xs us
+
+pub reached_stuck : {d : Dialect} {l : Lexed} {a : Aside} {ts us : Left} → ts ≡ left_of 0 l a → Sticks d (at_line (outer no_statements) ts.last) ts us → reached d l.items ≤ end_ahead us.last us.items
 reached_stuck {d} {l} {us = us} w p =
     let q = subst (λ z. Sticks d (at_line (outer no_statements) z.last) z us) w p in
-    at_most (ap (reached (last_end 0 l.items)) q.same ∙ ends_there us.items us.last (last_end 0 l.items) q.behind.last)
+    at_most (ap (reached_by l.items) q.same ∙ ends_there us.items us.last (last_end 0 l.items) q.behind.last)
 
-pub reached_broken : {d : Dialect} {l : Lexed} {a : Aside} {n k : ℕ} {ts us : Left} (f : Finding) → ts ≡ left_of 0 l a → Answers d (at_line (outer no_statements) ts.last) ts (Broken f n) us → reached (last_end 0 l.items) (answer_to d l.items) ≤ k
-reached_broken {d} {l} {n = n} {k} {us = us} f w p =
-    let q = ap (reached (last_end 0 l.items)) (subst (λ z. Answers d (at_line (outer no_statements) z.last) z (Broken f n) us) w p).same in
-    omega (arith, q)
+pub reached_broken : {d : Dialect} {l : Lexed} {a : Aside} {ts us : Left} (f : Finding) → ts ≡ left_of 0 l a → Answers d (at_line (outer no_statements) ts.last) ts (Broken f (length us.items)) us → reached d l.items ≤ end_ahead us.last us.items
+reached_broken {d} {l} {us = us} f w p =
+    let q = subst (λ z. Answers d (at_line (outer no_statements) z.last) z (Broken f (length us.items)) us) w p in
+    let left = ap (last_of (length us.items)) q.behind.items ∙ last_left q.behind.passed us.items in
+    at_most (ap (reached_by l.items) q.same ∙ ap (end_ahead (last_end 0 l.items)) left ∙ ends_there us.items us.last (last_end 0 l.items) q.behind.last)
 
-pub reached_read : {d : Dialect} {l : Lexed} {a : Aside} {ts us : Left} {raw : Statement} → ts ≡ left_of 0 l a → SameEnd ts us → Read d l us raw → reached (last_end 0 l.items) (answer_to d l.items) ≤ end_ahead us.last us.items
+pub reached_read : {d : Dialect} {l : Lexed} {a : Aside} {ts us : Left} {raw : Statement} → ts ≡ left_of 0 l a → SameEnd ts us → Read d l us raw → reached d l.items ≤ end_ahead us.last us.items
 reached_read {d} {l} {us = us} {raw} w e r =
     let q = (subst (λ z. SameEnd z us) w e).last in
-    at_most (ap (reached (last_end 0 l.items)) r.same ∙ settled_end (last_end 0 l.items) raw (end_finding d raw) ∙ sym (ap (λ xs. last_end us.last xs) (sym r.items) ∙ q) ∙ ap (λ xs. end_ahead us.last xs) (sym r.items))
+    at_most (ap (reached_by l.items) r.same ∙ settled_end l.items raw (end_finding d raw) ∙ sym (ap (λ xs. last_end us.last xs) (sym r.items) ∙ q) ∙ ap (λ xs. end_ahead us.last xs) (sym r.items))
 
 -- the reason that was given
 pub given : {A : Type 0} {d : Dialect} {l : Lexed} {r : Refused} {g : Fault} → fault_of r ≡ Some g → IsRefusal d l g → (e : Refused) (f : Fault) → ◌≡◌ {A = Result A Refused} (Err r) (Err e) → fault_of e ≡ Some f → IsRefusal d l f

@@ -1,5 +1,6 @@
 -- How a function of the parser returns.
-use Rattle.std.proofs.Common.{◌≡◌, ◌≢◌, ℕ, List, [], ◌∷◌, Option, Some, None, Bool, true, false, Result, Ok, Err, refl, ap, sym, subst, ◌∙◌, length}
+use Rattle.std.proofs.Common.{◌≡◌, ◌≢◌, ℕ, List, [], ◌∷◌, ◌++◌, Option, Some, None, Bool, true, false, Result, Ok, Err, refl, ap, sym, subst, ◌∙◌, length}
+use Rattle.std.proofs.lemmas.List.{append_assoc}
 use Rattle.std.specs.Bool.{MatchBool}
 use Rattle.starlark_place.specs.declared.pos.Spanned.{Spanned}
 use Rattle.starlark_lexer.specs.Items.{Lexeme, Item, item}
@@ -23,13 +24,13 @@ use Rattle.starlark_grammar.specs.Sorts.{name_of}
 
 -- where the tokens end
 pub same_end : {ts : Left} → SameEnd ts ts
-same_end = record { fault = refl; last = refl; aside = refl }
+same_end = record { passed = []; items = refl; fault = refl; last = refl; aside = refl }
 
 pub then_end : {ts us vs : Left} → SameEnd ts us → SameEnd us vs → SameEnd ts vs
-then_end p q = record { fault = q.fault ∙ p.fault; last = q.last ∙ p.last; aside = q.aside ∙ p.aside }
+then_end {us = us} {vs} p q = record { passed = p.passed ++ q.passed; items = p.items ∙ ap (λ xs. p.passed ++ xs) q.items ∙ sym (append_assoc p.passed q.passed vs.items); fault = q.fault ∙ p.fault; last = q.last ∙ p.last; aside = q.aside ∙ p.aside }
 
 pub passes_end : {ts us : Left} {x : Item} → Passes ts x us → SameEnd ts us
-passes_end {ts} {us} {x} p = record { fault = p.fault; last = ap (λ n. last_end n us.items) p.last ∙ sym (ap (last_end ts.last) p.items); aside = p.aside }
+passes_end {ts} {us} {x} p = record { passed = x ∷ []; items = p.items; fault = p.fault; last = ap (λ n. last_end n us.items) p.last ∙ sym (ap (last_end ts.last) p.items); aside = p.aside }
 
 infixl 5 ◌>>◌
 pub ◌>>◌ : {d : Dialect} {s t u : State} {a b c : Left} → Goes d s a t b → Goes d t b u c → Goes d s a u c
@@ -39,7 +40,7 @@ pub sticks : {d : Dialect} {s t : State} {a b c : Left} → Goes d s a t b → S
 sticks p q = record { same = p.same ∙ q.same; behind = then_end p.behind q.behind }
 
 pub answers : {d : Dialect} {s t : State} {a b c : Left} {v : Verdict} → Goes d s a t b → Answers d t b v c → Answers d s a v c
-answers p q = record { same = p.same ∙ q.same; aside = q.aside ∙ p.behind.aside }
+answers p q = record { same = p.same ∙ q.same; behind = then_end p.behind q.behind }
 
 pub begins : {d : Dialect} {s : State} {ts : Left} → Goes d s ts s ts
 begins = record { same = refl; behind = same_end }
@@ -115,7 +116,7 @@ halts {d} {A} {s} {t} {before} {after} {f} p = record {
 
 -- a construct is met there that breaks a rule
 pub broken : {d : Dialect} {s : State} (ts : Left) (v : Event) (f : Finding) → met s (first_lexeme ts.items) ≡ Some v → broken_at d v ts.items ≡ Some f → Answers d s ts (Broken f (length ts.items)) ts
-broken {d} {s} ts v f m b = record { same = go ts.items m b; aside = refl }
+broken {d} {s} ts v f m b = record { same = go ts.items m b; behind = same_end }
   where
     go : (xs : List Item) → met s (first_lexeme xs) ≡ Some v → broken_at d v xs ≡ Some f → judge d (run s xs) ≡ Broken f (length xs)
     go [] m b = ap (judge d) (runs_end s ∙ ap (λ o. note [] o (finish s)) m) ∙ ap (λ o. answer o 0 (judge d (finish s))) b

@@ -1,5 +1,5 @@
 -- What a function of the parser says.
-use Rattle.std.specs.Prelude.{◌≡◌, ℕ, List, [], ◌∷◌, length, Option, Some, None, Result, Ok, Err, false}
+use Rattle.std.specs.Prelude.{◌≡◌, ℕ, List, [], ◌∷◌, ◌++◌, length, Option, Some, None, Result, Ok, Err, false}
 use Rattle.starlark_place.specs.Place.{extent}
 use Rattle.starlark_place.specs.declared.pos.Spanned.{Spanned}
 use Rattle.starlark_lexer.specs.Items.{Lexeme, string, Item, Stop, Lexed, nothing, with_item, with_fault, lexeme_of}
@@ -101,6 +101,8 @@ pub record Passes (old : Left) (x : Item) (new : Left) : Type 0 where
 
 -- nothing but tokens that were read lies between
 pub record SameEnd (ts us : Left) : Type 0 where
+  pub passed : List Item
+  pub items : ts.items ≡ passed ++ us.items
   pub fault : us.fault ≡ ts.fault
   pub last : last_end us.last us.items ≡ last_end ts.last ts.items
   pub aside : us.aside ≡ ts.aside
@@ -118,7 +120,7 @@ pub record Sticks (d : Dialect) (s : State) (ts us : Left) : Type 0 where
 -- from s at the tokens ts the answer is that, at the tokens us
 pub record Answers (d : Dialect) (s : State) (ts : Left) (v : Verdict) (us : Left) : Type 0 where
   pub same : judge d (run s ts.items) ≡ v
-  pub aside : us.aside ≡ ts.aside
+  pub behind : SameEnd ts us
 
 -- The machine comes from s at the tokens before to the state of the result at the tokens after, or it
 -- is stuck at the tokens after, or a rule is broken there.

@@ -1,7 +1,8 @@
 -- Where reading stops: how far a text was read that is refused.
-use Rattle.std.specs.Prelude.{ℕ, List, [], ◌∷◌, length}
+use Rattle.std.specs.Prelude.{ℕ, ◌-◌, List, [], ◌∷◌, drop, length}
 use Rattle.starlark_lexer.specs.Items.{Item}
 use Rattle.starlark_lexer.specs.declared.dialect.Dialect.{Dialect}
+use Rattle.starlark_grammar.specs.Language.{last_end}
 use Rattle.starlark_grammar.specs.Runs.{initial, run}
 use Rattle.starlark_grammar.specs.Verdicts.{Verdict, Fine, Unexpected, Broken, Spoilt, judge}
 
@@ -21,9 +22,16 @@ abbrev pub end_ahead : ℕ → List Item → ℕ
 end_ahead e [] = e
 end_ahead e (x ∷ xs) = x.end
 
--- The end of the token that cannot stand where it does, or of the last one, which is e, where all are read. Where a rule is broken it is 0: the verdict does not say which token stands ahead.
-abbrev pub reached : ℕ → Verdict → ℕ
-reached e (Fine s) = e
-reached e (Unexpected us) = end_ahead e us
-reached e (Broken f n) = 0
-reached e (Spoilt s f) = e
+-- the last n of the tokens
+abbrev pub last_of : ℕ → List Item → List Item
+last_of n xs = drop (length xs - n) xs
+
+-- the end of the token that stands ahead where that is found, or of the last one where all are read
+abbrev pub reached_by : List Item → Verdict → ℕ
+reached_by xs (Fine s) = last_end 0 xs
+reached_by xs (Unexpected us) = end_ahead (last_end 0 xs) us
+reached_by xs (Broken f n) = end_ahead (last_end 0 xs) (last_of n xs)
+reached_by xs (Spoilt s f) = last_end 0 xs
+
+abbrev pub reached : Dialect → List Item → ℕ
+reached d xs = reached_by xs (answer_to d xs)

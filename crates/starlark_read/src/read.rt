@@ -47,7 +47,7 @@ pub fn read<B: Build>(
     ensures last { IfErr result (λ e. is_last (fault_of e) ≡ true → told.new.cost.asks ≡ counted (suc (length lexer.entry.left.items))) }
     ensures each { IfErr result (λ e. fault_of e ≢ None → counted (suc (length lexer.entry.left.items)) ≤ told.new.cost.asks + (left_over (answer_to dialect.now (uncommented lexer.entry.left).items) + length (comments_in lexer.entry.left.items))) }
     ensures few { IfErr result (λ e. fault_of e ≢ None → counted (told.new.cost.asks + left_over (answer_to dialect.now (uncommented lexer.entry.left).items)) ≤ counted (suc (length lexer.entry.left.items))) }
-    ensures reached { IfErr result (λ e. fault_of e ≢ None → reached (last_end 0 (uncommented lexer.entry.left).items) (answer_to dialect.now (uncommented lexer.entry.left).items) ≤ told.new.cost.reads) }
+    ensures reached { IfErr result (λ e. fault_of e ≢ None → reached dialect.now (uncommented lexer.entry.left).items ≤ told.new.cost.reads) }
     ensures spent { IfErr result (λ e. fault_of e ≢ None → told.new.cost.reads ≤ 16 * lexer.entry.size + 16) }
 {
     *told = Told::nothing(alloc);
@@ -76,7 +76,7 @@ fn program<B: Build>(tokens: &mut Tokens<'_>, dialect: &Dialect) -> Result<B::St
     ensures last { IfErr result (λ e. is_last (fault_of e) ≡ true → tokens.new.items ≡ []) }
     ensures aside { IfErr result (λ e. fault_of e ≢ None → tokens.new.aside ≡ tokens.old.aside) }
     ensures left { (l : Lexed) (a : Aside) → tokens.old ≡ left_of 0 l a → IfErr result (λ e. fault_of e ≢ None → length tokens.new.items ≡ left_over (answer_to dialect.now l.items)) }
-    ensures reached { (l : Lexed) (a : Aside) → tokens.old ≡ left_of 0 l a → IfErr result (λ e. fault_of e ≢ None → reached (last_end 0 l.items) (answer_to dialect.now l.items) ≤ end_ahead tokens.new.last tokens.new.items) }
+    ensures reached { (l : Lexed) (a : Aside) → tokens.old ≡ left_of 0 l a → IfErr result (λ e. fault_of e ≢ None → reached dialect.now l.items ≤ end_ahead tokens.new.last tokens.new.items) }
 {
     let TopStatements { items, are_clean } = match statements::<B>(tokens, dialect) {
         Ok(statements) => statements,

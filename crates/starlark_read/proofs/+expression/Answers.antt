@@ -1,11 +1,11 @@
-use Rattle.std.proofs.Common.{◌+◌, ◌-◌, ◌≡◌, ◌∙◌, suc, refl, ap, sym, rules, arith, length, inl, inr, cond, true, string_bytes, [], ◌∷◌, ◌++◌, Some, ap₂}
+use Rattle.std.proofs.Common.{◌+◌, ◌-◌, ◌≡◌, ◌∙◌, suc, refl, ap, sym, rules, arith, length, inl, inr, cond, true, string_bytes, [], ◌∷◌, ◌++◌, Some, false, ap₂}
 use Rattle.starlark_lexer.specs.Items.{keyword_lambda, keyword_if, dot, opening_round, opening_square, comma, closing_round, star, star_star, equal, colon, closing_square, opening_curly, keyword_for, closing_curly, fstring_end, fstring_expr_end, slash}
 use Rattle.starlark_grammar.specs.Made.{sign_of, bound_of, items_of, pairs_of, clauses_of}
 use Rattle.starlark_grammar.specs.Nodes.{start, operated, from}
 use Rattle.starlark_grammar.specs.Points.{behind_sign, body, operand, condition, otherwise, behind, first_at, an_argument, an_args, a_kwargs, member, a_named, at_first, at_second, at_third, bound, second, brackets, clauses_read, before_body}
 use Rattle.starlark_grammar.specs.Frames.{inside, wants, has, tail, stands, perhaps_named}
 use Rattle.starlark_grammar.specs.Machine.{tails}
-use Rattle.starlark_read.specs.Reads.{begins_ahead, grade_ahead, name_ahead, in_clause}
+use Rattle.starlark_read.specs.Reads.{begins_ahead, grade_ahead, name_ahead, in_clause, one_of}
 use Rattle.starlark_grammar.proofs.Reached.{plain_close}
 use Rattle.starlark_read.proofs.Exits.{begins, ◌>>◌, renamed, state_is, exits, behind_it, read_it, left_it, seen_as, gives, goes, runs_as, sticks, missing, stays_there, answers, halts, refuses}
 use Rattle.starlark_read.proofs.Beginning.{lambda_begins, plain_begins, lambda_ends}
@@ -953,3 +953,37 @@ parameters::parameter-returns-clause-reads g met c d b ms t e f k n =
     let z = left_it _ _ star_star _ c.if-branch-3.false c.in_ok-accept-3.ensures in
     let p = named _ _ _ _ c.in-Some-2.is c.in_ok-name-2.ensures in
     gives (name_begins b ms t e f k _ _ _ (passes_from _ (z.0 ∙ y.0 ∙ x.0) p.1) >> name_is _ _ _ _ _ k _ (left_it _ _ equal _ c.if-branch-4.false c.in_ok-accept-4.ensures) (c.in_ok-parameter-2.ensures ∙ spans_as tree.plain _ _ _ _ _ (span_from _ _ (z.0 ∙ y.0 ∙ x.0) p.0) (placed _ _ _ c.since-span-2.ensures c.begin-begin.ensures)))
+
+pub operators::operators-loop-floor-init : goal.operators::operators-loop-floor-init
+operators::operators-loop-floor-init g met c = record {
+  reads = λ d i j k p q. state_is begins (ap (λ n. has (g.B.Make.means c.args.left) c.args.tokens.now.last (tails n c.args.floor k)) (let same : i ≡ j = omega (arith, p, q) in same));
+  low = c.requires.low;
+  below = c.requires.below;
+  shorter = omega arith;
+}
+
+pub suffixes::suffixes-loop-tokens-init : goal.suffixes::suffixes-loop-tokens-init
+suffixes::suffixes-loop-tokens-init g met c = record { reads = λ d k. begins; shorter = omega arith }
+
+pub arguments::arguments-loop-found-init : goal.arguments::arguments-loop-found-init
+arguments::arguments-loop-found-init g met c = record {
+  reads = λ d q k. record { trailing = false; end = 0; first = 0; goes = wanted_as _ begins (ap (members g.B.Make.argument_means) c.new-found.ensures.items) };
+  shorter = omega arith;
+}
+
+pub subscripts::bound-returns-then-stands-clause-reads : goal.subscripts::bound-returns-then-stands-clause-reads
+subscripts::bound-returns-then-stands-clause-reads g met c d q bs k = gives begins
+
+pub subscripts::bound-returns-then-stands-2-clause-reads : goal.subscripts::bound-returns-then-stands-2-clause-reads
+subscripts::bound-returns-then-stands-2-clause-reads g met c d q bs k = gives begins
+
+pub listed::listed_behind-returns-then-not-branch-clause-reads : goal.listed::listed_behind-returns-then-not-branch-clause-reads
+listed::listed_behind-returns-then-not-branch-clause-reads g met c d k h =
+    let n = left_it _ _ comma _ c.if-not-branch.true c.in_ok-accept.ensures in
+    gives (state_is (renamed n.0) (ap (λ ts. has (g.B.Make.means c.args.first) ts.last (one_of k tree.none c.args.begin)) (sym n.0)))
+
+pub f_string::f_string-loop-fields-init : goal.f_string::f_string-loop-fields-init
+f_string::f_string-loop-fields-init g met c = record {
+  reads = λ d k. pieces_as _ (put _ _ _ _ _ begins c.new-format.ensures.bytes) (ap (items_of g.B.Make.means) c.new-fields.ensures.items);
+  shorter = omega arith;
+}

@@ -43,7 +43,7 @@ pub returns-in-Err-Unexpected-clause-aside : goal.returns-in-Err-Unexpected-clau
 returns-in-Err-Unexpected-clause-aside g c h = (c.statements.ensures.reads.stuck (search rules)).behind.aside
 
 pub returns-in-Err-Broken-clause-aside : goal.returns-in-Err-Broken-clause-aside
-returns-in-Err-Broken-clause-aside g c h = (c.statements.ensures.reads.breaks c.in-Err-Broken.rule (search rules)).aside
+returns-in-Err-Broken-clause-aside g c h = (c.statements.ensures.reads.breaks c.in-Err-Broken.rule (search rules)).behind.aside
 
 pub returns-in-Some-clause-aside : goal.returns-in-Some-clause-aside
 returns-in-Some-clause-aside g c h = (c.statements.ensures.reads.comes c.in-Ok.statements (search rules)).behind.aside

@@ -4,11 +4,17 @@ use Rattle.starlark_read.specs.declared.kind.Kind.TheVariants as kind
 use Rattle.starlark_grammar.specs.Frames.{at_line, outer}
 use Rattle.starlark_grammar.specs.Made.{sequence_of}
 use Rattle.starlark_grammar.proofs.CleanEnds.{EndsClean, clean_end, clean_more}
-use Rattle.starlark_read.proofs.Exits.{◌>>◌, exits, goes, left_it, read_it, refuses, renamed, state_is, sticks}
+use Rattle.starlark_read.proofs.Exits.{◌>>◌, begins, exits, goes, left_it, read_it, refuses, renamed, state_is, sticks}
 use Rattle.starlark_read.proofs.Plain.{stands, stands_not}
 use Rattle.starlark_read.proofs.Rows.{no_suite_end, some_there, statement_more}
 use Rattle.starlark_read.proofs.Suffixing.{unlike}
 use Rattle.starlark_read.proofs.statements.statements.Goals as goal
+
+pub loop-found-init : goal.loop-found-init
+loop-found-init g c = record {
+  reads = state_is begins (ap (λ xs. at_line (outer (sequence_of g.B.Make.says xs)) c.args.tokens.now.last) (sym c.new-found.ensures.items));
+  clean = λ h. subst (EndsClean _) (ap (sequence_of g.B.Make.says) (sym c.new-found.ensures.items)) (record { kept = refl; stands = refl; inside = refl });
+}
 
 pub loop-found-preserved-then-branch : goal.loop-found-preserved-then-branch
 loop-found-preserved-then-branch g c = record {
