@@ -1,4 +1,4 @@
--- Statements at the top of a tree, and their words: the section "Outline" of docs/LANGUAGE.md.
+-- Statements at the top of a tree, and their words: the section "Outlines" of docs/LANGUAGE.md.
 use Rattle.std.specs.Prelude.{ℕ, List, [], ◌∷◌, ◌++◌, Option, Some, None, codes}
 use Rattle.starlark_ast.specs.Tree as t
 use Rattle.starlark_ast.specs.Tree.{Statement, Sequence}
