@@ -27,17 +27,15 @@ pub trait ToAst: Sized {
 impl<T> ToAst for T {}
 
 /// An only statement itself, at its own place; else all of them as a list at `begin..end`. `begin` is at most `end`, and both fit 32 bits.
-pub fn statements(mut xs: Vec<AstStmt>, begin: usize, end: usize) -> AstStmt
+pub fn statements(xs: Vec<AstStmt>, begin: usize, end: usize) -> AstStmt
     requires order { begin ≤ end }
     requires fits { end < 2 ^ 32 }
     ensures { result ≡ statements_at xs (extent begin end) }
 {
-    if xs.len() == 1 {
-        if let Some(only) = xs.pop() {
-            return only;
-        }
+    match <[AstStmt; 1]>::try_from(xs) {
+        Ok([only]) => only,
+        Err(xs) => StmtP::Statements(xs).ast(begin, end),
     }
-    StmtP::Statements(xs).ast(begin, end)
 }
 
 /// The statements of a tree at its top, in order: those of a list in its place, also of one in another, and any other itself.
