@@ -1,22 +1,18 @@
 -- What a reading of a text costs.
-use Rattle.std.proofs.Common.{◌≡◌, ◌≢◌, ◌≤◌, ℕ, suc, ◌+◌, ◌*◌, true, List, Option, Some, None, Err, length, refl, ap, subst, sym, arith, ◌∙◌, min}
+use Rattle.std.proofs.Common.{◌≡◌, ◌≢◌, ◌<◌, ◌≤◌, ℕ, zero, suc, ◌+◌, ◌-◌, ◌*◌, Bool, true, false, if◌then◌else◌, List, [], ◌∷◌, Option, Some, None, Err, length, refl, ap, subst, sym, arith, ◌∙◌, min}
 use Rattle.std.proofs.Math.Nat.{min-eq_left, min-le_right}
-use Rattle.starlark_place.specs.Diagnostic.{inner_of}
 use Rattle.starlark_place.specs.Place.{File}
-use Rattle.starlark_lexer.specs.Items.{Lexed}
+use Rattle.starlark_lexer.specs.Items.{Item, Lexed}
 use Rattle.starlark_lexer.specs.Lex.{Lex, start}
 use Rattle.starlark_read.specs.declared.cost.Cost.{Cost}
 use Rattle.starlark_parser.specs.declared.fault.EvalException.{EvalException}
 use Rattle.starlark_parser.specs.declared.fault.EvalException.TheVariants as exception
 use Rattle.starlark_lexer.specs.declared.dialect.Dialect.{Dialect}
-use Rattle.starlark_grammar.specs.Comments.{comments_in}
 use Rattle.starlark_read.specs.Asides.{counted}
-use Rattle.starlark_read.specs.Stops.{answer_to, left_over, reached}
-use Rattle.starlark_read.proofs.Asking.{parted}
-use Rattle.starlark_read.specs.Refused as refused
-use Rattle.starlark_parser.specs.Costs.{Costs, IsBounded, IsPartly, IsWhole, is_last}
-use Rattle.starlark_parser.specs.Faults.{Reason, Tells, reason, reason_of}
-use Rattle.starlark_grammar.specs.Language.{Fault, by_lexer, by_rule, unexpected, unexpected_end, last_end, uncommented}
+use Rattle.starlark_read.specs.Stops.{answer_to, asked, asks_until, left_over, reached}
+use Rattle.starlark_parser.specs.Costs.{Costs, IsBounded, IsPartly, IsWhole}
+use Rattle.starlark_parser.specs.Faults.{Tells}
+use Rattle.starlark_grammar.specs.Language.{Fault, is_comment, last_end, uncommented}
 use Rattle.starlark_grammar.proofs.Ended.{ended}
 
 -- a text has too few lexemes for the count to stop
@@ -54,32 +50,33 @@ whole_cost {text} {source} {l} {c} {d} cap q x f h few a r z b =
 
 -- how far a text is read that is refused
 pub record Stops (dialect : Dialect) (l : Lexed) (c : Cost) : Type 0 where
-  pub each : counted (suc (length l.items)) ≤ c.asks + (left_over (answer_to dialect (uncommented l).items) + length (comments_in l.items))
-  pub few : counted (c.asks + left_over (answer_to dialect (uncommented l).items)) ≤ counted (suc (length l.items))
+  pub asked : suc (length l.items) < 18446744073709551615 → c.asks ≡ asked dialect l
   pub reached : reached dialect (uncommented l).items ≤ c.reads
 
--- where a reason is found, with its place and without it
-same_last : (f : Fault) → refused.is_last (Some f) ≡ is_last (reason f)
-same_last (by_lexer e s) = refl
-same_last (unexpected s) = refl
-same_last (unexpected_end n) = refl
-same_last (by_rule r s) = refl
+-- the lexer is asked for nothing behind its end
+few_asked : (n : ℕ) (xs : List Item) → asks_until n xs ≤ suc (length xs)
+few_asked n [] = omega arith
+few_asked zero (x ∷ xs) = by_kind (few_asked zero xs) (is_comment x.lexeme)
+  where
+    by_kind : asks_until 0 xs ≤ suc (length xs) → (b : Bool) → suc (if b then asks_until 0 xs else 0) ≤ suc (suc (length xs))
+    by_kind h true = omega (arith, h)
+    by_kind h false = omega arith
+few_asked (suc n) (x ∷ xs) = let h = few_asked (if is_comment x.lexeme then suc n else n) xs in omega (arith, h)
 
-part_cost : {dialect : Dialect} {text : List ℕ} {l : Lexed} {c : Cost} (r : Reason) → c.reads ≤ 16 * length text + 16 → Lex start text l → length text ≤ 4294967295 → length l.items ≤ 2 * length text + 1 → 1 ≤ c.asks → c.asks ≤ counted (suc (length l.items)) → (is_last r ≡ true → c.asks ≡ counted (suc (length l.items))) → Stops dialect l c → IsPartly dialect text r c
-part_cost {text = text} {l} {c} r b w h few s m a t =
-    let k = fits (length text) (length l.items) h few in
-    let p = parted l.items in
-    record { lexed = l; lexes = w; some = s; most = omega (arith, k, m); each = omega (arith, k, p, t.each); behind = omega (arith, k, t.few, h, few); last = λ e. a e ∙ k; few = omega (arith, k, m, few); reads = t.reached; bounded = b }
+part_cost : {dialect : Dialect} {text : List ℕ} {l : Lexed} {c : Cost} → c.reads ≤ 16 * length text + 16 → Lex start text l → length text ≤ 4294967295 → length l.items ≤ 2 * length text + 1 → Stops dialect l c → IsPartly dialect text c
+part_cost {dialect} {text} {l} {c} b w h few t =
+    let a = t.asked (omega (arith, h, few)) in
+    let m = few_asked (length (uncommented l).items - left_over (answer_to dialect (uncommented l).items)) l.items in
+    record { lexed = l; lexes = w; asks = a; few = omega (arith, a, m, few); reads = t.reached; bounded = b }
 
-pub refused_cost : {dialect : Dialect} {text source : List ℕ} {l : Lexed} {n : ℕ} (c d : Cost) → IsCapped (length text) c d → (o : Option Fault) (file : File) (e : EvalException) → Tells o file e → source ≡ text → Lex start source l → length text ≤ 4294967295 → ((t : List ℕ) (m : Lexed) → Lex start t m → length m.items ≤ 2 * length t + 1) → (o ≢ None → 1 ≤ c.asks) → (o ≢ None → c.asks ≤ counted (suc (length l.items))) → n ≡ length source → (o ≢ None → c.reads ≤ 16 * n + 16) → (refused.is_last o ≡ true → c.asks ≡ counted (suc (length l.items))) → (o ≢ None → Stops dialect l c) → Costs dialect text (Err e) d
-refused_cost {dialect} {text} {source} {l} c d cap (Some f) file (exception.Fault w) t q x h few s m z b a stops =
+pub refused_cost : {dialect : Dialect} {text source : List ℕ} {l : Lexed} {n : ℕ} (c d : Cost) → IsCapped (length text) c d → (o : Option Fault) (file : File) (e : EvalException) → Tells o file e → source ≡ text → Lex start source l → length text ≤ 4294967295 → ((t : List ℕ) (m : Lexed) → Lex start t m → length m.items ≤ 2 * length t + 1) → n ≡ length source → (o ≢ None → c.reads ≤ 16 * n + 16) → (o ≢ None → Stops dialect l c) → Costs dialect text (Err e) d
+refused_cost {dialect} {text} {source} {l} c d cap (Some f) file (exception.Fault w) t q x h few z b stops =
     let y : Lex start text l = subst (λ t. Lex start t l) q x in
     let n : Some f ≢ None = λ v. absurd (cc) in
-    let r = reason_of (inner_of w) in
-    let part = part_cost r (within q z (b n)) y h (few text l y) (s n) (m n) (λ e. a (same_last f ∙ sym (ap is_last t.why) ∙ e)) (stops n) in
-    subst (IsPartly dialect text r) (capped cap part.few part.bounded) part
-refused_cost c d cap None file (exception.Fault w) t q x h few s m z b a stops = absurd t
-refused_cost c d cap (Some f) file exception.TooLong t q x h few s m z b a stops = absurd t
-refused_cost c d cap None file exception.TooLong t q x h few s m z b a stops = absurd t
-refused_cost {text = text} c d cap (Some f) file exception.Memory t q x h few s m z b a stops = bounded_at cap
-refused_cost {text = text} c d cap None file exception.Memory t q x h few s m z b a stops = bounded_at cap
+    let part = part_cost (within q z (b n)) y h (few text l y) (stops n) in
+    subst (IsPartly dialect text) (capped cap part.few part.bounded) part
+refused_cost c d cap None file (exception.Fault w) t q x h few z b stops = absurd t
+refused_cost c d cap (Some f) file exception.TooLong t q x h few z b stops = absurd t
+refused_cost c d cap None file exception.TooLong t q x h few z b stops = absurd t
+refused_cost {text = text} c d cap (Some f) file exception.Memory t q x h few z b stops = bounded_at cap
+refused_cost {text = text} c d cap None file exception.Memory t q x h few z b stops = bounded_at cap

@@ -2,7 +2,6 @@
 use Rattle.std.specs.Prelude.{◌≡◌, ℕ, List, Result, Ok, Err}
 use Rattle.starlark_lexer.specs.declared.dialect.Dialect.{Dialect}
 use Rattle.starlark_parser.specs.Costs.{IsBounded, IsPartly, IsWhole}
-use Rattle.starlark_parser.specs.Faults.{reason_of}
 use Rattle.starlark_read.specs.declared.cost.Cost.{Cost}
 use Rattle.starlark_parts.specs.Kept.{Edit, inserts, replaces, removes, moves}
 use Rattle.starlark_parts.specs.declared.fault.PartFault.{PartFault}
@@ -15,7 +14,7 @@ nothing_read = record { reads = 0; asks = 0 }
 -- What the reading of a text took whose edit is refused: a text that is not closed was read to its end; one that is refused by reading, until then; and one that is refused before, not at all. Where memory runs out it is no more than such a text takes.
 abbrev pub SpentUntil : Dialect → List ℕ → PartFault → Cost → Type 0
 SpentUntil d text faults.Open c = IsWhole text c
-SpentUntil d text (faults.Parse error place) c = IsPartly d text (reason_of error) c
+SpentUntil d text (faults.Parse error place) c = IsPartly d text c
 SpentUntil d text faults.Memory c = IsBounded text c
 SpentUntil d text faults.Index c = c ≡ nothing_read
 SpentUntil d text faults.Utf8 c = c ≡ nothing_read

@@ -18,7 +18,7 @@ use Rattle.starlark_grammar.specs.Language.{Fault, IsProgram, IsRefusal, IsRefus
 use Rattle.starlark_read.specs.Asides.{Aside}
 use Rattle.starlark_read.specs.Reads.{Left, left_of, Answers, Goes, SameEnd, Sticks}
 use Rattle.starlark_read.specs.declared.refused.Refused.{Refused}
-use Rattle.starlark_read.specs.Refused.{fault_ahead, fault_at, fault_of, is_last}
+use Rattle.starlark_read.specs.Refused.{fault_ahead, fault_at, fault_of}
 use Rattle.starlark_read.specs.Stops.{answer_to, end_ahead, last_of, left_over, reached, reached_by}
 use Rattle.starlark_grammar.proofs.Steps.{runs_end}
 use Rattle.starlark_grammar.proofs.Refusals.{told, told_of, Answered, a_program, a_refusal, answered}
@@ -46,11 +46,11 @@ stuck_at (x ∷ xs) s e = refl
 stuck_at [] (Some s) e = refl
 stuck_at [] None e = refl
 
-pub stuck_is : {d : Dialect} {l : Lexed} {a : Aside} (us : Left) → Sticks d initial (left_of 0 l a) us → IsRefusal d l (fault_ahead us)
+pub stuck_is : {d : Dialect} {l : Lexed} {os : List Item} {a : Aside} (us : Left) → Sticks d initial (left_of 0 l os a) us → IsRefusal d l (fault_ahead us)
 stuck_is {d} {l} us p = refusal_is d l (fault_ahead us) (ap (λ v. told v l.fault (last_end 0 l.items)) p.same ∙ ap (λ s. told (Unexpected us.items) s (last_end 0 l.items)) (sym p.behind.fault) ∙ ap (told (Unexpected us.items) us.fault) (sym p.behind.last) ∙ stuck_at us.items us.fault us.last)
 
 -- a rule is broken
-pub broken_is : {d : Dialect} {l : Lexed} {a : Aside} {us : Left} {n : ℕ} (f : Spanned Rule) → Answers d initial (left_of 0 l a) (Broken (finding_of f) n) us → IsRefusal d l (by_rule (rule_view f.node) f.span)
+pub broken_is : {d : Dialect} {l : Lexed} {os : List Item} {a : Aside} {us : Left} {n : ℕ} (f : Spanned Rule) → Answers d initial (left_of 0 l os a) (Broken (finding_of f) n) us → IsRefusal d l (by_rule (rule_view f.node) f.span)
 broken_is {d} {l} f p = refusal_is d l _ (ap (λ v. told v l.fault (last_end 0 l.items)) p.same)
 
 -- all tokens were read
@@ -59,7 +59,7 @@ pub record Read (d : Dialect) (l : Lexed) (us : Left) (raw : Statement) : Type 0
   pub fault : us.fault ≡ l.fault
   pub items : us.items ≡ []
 
-pub all_read : {d : Dialect} {l : Lexed} {a : Aside} (us : Left) (ss : Sequence) → Goes d initial (left_of 0 l a) (at_line (outer ss) us.last) us → us.items ≡ [] → Read d l us (block_of ss us.last)
+pub all_read : {d : Dialect} {l : Lexed} {os : List Item} {a : Aside} (us : Left) (ss : Sequence) → Goes d initial (left_of 0 l os a) (at_line (outer ss) us.last) us → us.items ≡ [] → Read d l us (block_of ss us.last)
 all_read {d} us ss g e = record {
   same = g.same ∙ ap (λ xs. judge d (run (at_line (outer ss) us.last) xs)) e ∙ ap (judge d) (runs_end (at_line (outer ss) us.last));
   fault = g.behind.fault;
@@ -87,13 +87,13 @@ pub fine_is : {d : Dialect} {l : Lexed} {us : Left} {raw : Statement} → Read d
 fine_is {d} {l} {us} {raw} r n h = let q = sym r.fault ∙ n in (q, program_is d l raw (r.same ∙ ap (settle raw) h) q)
 
 -- the same by the code's names
-pub stuck_from : {d : Dialect} {l : Lexed} {a : Aside} {ts : Left} (us : Left) → ts ≡ left_of 0 l a → Sticks d (at_line (outer no_statements) ts.last) ts us → IsRefusal d l (fault_ahead us)
+pub stuck_from : {d : Dialect} {l : Lexed} {os : List Item} {a : Aside} {ts : Left} (us : Left) → ts ≡ left_of 0 l os a → Sticks d (at_line (outer no_statements) ts.last) ts us → IsRefusal d l (fault_ahead us)
 stuck_from {d} us w p = stuck_is us (subst (λ z. Sticks d (at_line (outer no_statements) z.last) z us) w p)
 
-pub broken_from : {d : Dialect} {l : Lexed} {a : Aside} {n : ℕ} {ts us : Left} (f : Spanned Rule) → ts ≡ left_of 0 l a → Answers d (at_line (outer no_statements) ts.last) ts (Broken (finding_of f) n) us → IsRefusal d l (by_rule (rule_view f.node) f.span)
+pub broken_from : {d : Dialect} {l : Lexed} {os : List Item} {a : Aside} {n : ℕ} {ts us : Left} (f : Spanned Rule) → ts ≡ left_of 0 l os a → Answers d (at_line (outer no_statements) ts.last) ts (Broken (finding_of f) n) us → IsRefusal d l (by_rule (rule_view f.node) f.span)
 broken_from {d} {n = n} {us = us} f w p = broken_is f (subst (λ z. Answers d (at_line (outer no_statements) z.last) z (Broken (finding_of f) n) us) w p)
 
-pub read_from : {d : Dialect} {l : Lexed} {a : Aside} {ts : Left} (us : Left) (ss : Sequence) → ts ≡ left_of 0 l a → Goes d (at_line (outer no_statements) ts.last) ts (at_line (outer ss) us.last) us → us.items ≡ [] → Read d l us (block_of ss us.last)
+pub read_from : {d : Dialect} {l : Lexed} {os : List Item} {a : Aside} {ts : Left} (us : Left) (ss : Sequence) → ts ≡ left_of 0 l os a → Goes d (at_line (outer no_statements) ts.last) ts (at_line (outer ss) us.last) us → us.items ≡ [] → Read d l us (block_of ss us.last)
 read_from {d} us ss w g e = all_read us ss (subst (λ z. Goes d (at_line (outer no_statements) z.last) z (at_line (outer ss) us.last) us) w g) e
 
 -- how much is left to be read where reading stops
@@ -105,10 +105,10 @@ settled_end : (xs : List Item) (raw : Statement) (o : Option Finding) → reache
 settled_end xs raw None = refl
 settled_end xs raw (Some f) = refl
 
-pub left_stuck : {d : Dialect} {l : Lexed} {a : Aside} {ts us : Left} → ts ≡ left_of 0 l a → Sticks d (at_line (outer no_statements) ts.last) ts us → length us.items ≡ left_over (answer_to d l.items)
+pub left_stuck : {d : Dialect} {l : Lexed} {os : List Item} {a : Aside} {ts us : Left} → ts ≡ left_of 0 l os a → Sticks d (at_line (outer no_statements) ts.last) ts us → length us.items ≡ left_over (answer_to d l.items)
 left_stuck {d} {us = us} w p = sym (ap left_over (subst (λ z. Sticks d (at_line (outer no_statements) z.last) z us) w p).same)
 
-pub left_broken : {d : Dialect} {l : Lexed} {a : Aside} {ts us : Left} (f : Finding) → ts ≡ left_of 0 l a → Answers d (at_line (outer no_statements) ts.last) ts (Broken f (length us.items)) us → length us.items ≡ left_over (answer_to d l.items)
+pub left_broken : {d : Dialect} {l : Lexed} {os : List Item} {a : Aside} {ts us : Left} (f : Finding) → ts ≡ left_of 0 l os a → Answers d (at_line (outer no_statements) ts.last) ts (Broken f (length us.items)) us → length us.items ≡ left_over (answer_to d l.items)
 left_broken {d} {us = us} f w p = sym (ap left_over (subst (λ z. Answers d (at_line (outer no_statements) z.last) z (Broken f (length us.items)) us) w p).same)
 
 pub left_read : {d : Dialect} {l : Lexed} {us : Left} {raw : Statement} → Read d l us raw → length us.items ≡ left_over (answer_to d l.items)
@@ -133,18 +133,18 @@ passed_over xs us = let p = length-append xs us in omega (arith, p)
 last_left : (xs us : List Item) → last_of (length us) (xs ++ us) ≡ us
 last_left xs us = ap (λ n. drop n (xs ++ us)) (passed_over xs us) ∙ dropped xs us
 
-pub reached_stuck : {d : Dialect} {l : Lexed} {a : Aside} {ts us : Left} → ts ≡ left_of 0 l a → Sticks d (at_line (outer no_statements) ts.last) ts us → reached d l.items ≤ end_ahead us.last us.items
+pub reached_stuck : {d : Dialect} {l : Lexed} {os : List Item} {a : Aside} {ts us : Left} → ts ≡ left_of 0 l os a → Sticks d (at_line (outer no_statements) ts.last) ts us → reached d l.items ≤ end_ahead us.last us.items
 reached_stuck {d} {l} {us = us} w p =
     let q = subst (λ z. Sticks d (at_line (outer no_statements) z.last) z us) w p in
     at_most (ap (reached_by l.items) q.same ∙ ends_there us.items us.last (last_end 0 l.items) q.behind.last)
 
-pub reached_broken : {d : Dialect} {l : Lexed} {a : Aside} {ts us : Left} (f : Finding) → ts ≡ left_of 0 l a → Answers d (at_line (outer no_statements) ts.last) ts (Broken f (length us.items)) us → reached d l.items ≤ end_ahead us.last us.items
+pub reached_broken : {d : Dialect} {l : Lexed} {os : List Item} {a : Aside} {ts us : Left} (f : Finding) → ts ≡ left_of 0 l os a → Answers d (at_line (outer no_statements) ts.last) ts (Broken f (length us.items)) us → reached d l.items ≤ end_ahead us.last us.items
 reached_broken {d} {l} {us = us} f w p =
     let q = subst (λ z. Answers d (at_line (outer no_statements) z.last) z (Broken f (length us.items)) us) w p in
     let left = ap (last_of (length us.items)) q.behind.items ∙ last_left q.behind.passed us.items in
     at_most (ap (reached_by l.items) q.same ∙ ap (end_ahead (last_end 0 l.items)) left ∙ ends_there us.items us.last (last_end 0 l.items) q.behind.last)
 
-pub reached_read : {d : Dialect} {l : Lexed} {a : Aside} {ts us : Left} {raw : Statement} → ts ≡ left_of 0 l a → SameEnd ts us → Read d l us raw → reached d l.items ≤ end_ahead us.last us.items
+pub reached_read : {d : Dialect} {l : Lexed} {os : List Item} {a : Aside} {ts us : Left} {raw : Statement} → ts ≡ left_of 0 l os a → SameEnd ts us → Read d l us raw → reached d l.items ≤ end_ahead us.last us.items
 reached_read {d} {l} {us = us} {raw} w e r =
     let q = (subst (λ z. SameEnd z us) w e).last in
     at_most (ap (reached_by l.items) r.same ∙ settled_end l.items raw (end_finding d raw) ∙ sym (ap (λ xs. last_end us.last xs) (sym r.items) ∙ q) ∙ ap (λ xs. end_ahead us.last xs) (sym r.items))
@@ -155,11 +155,6 @@ given {A} {d} {l} {r} {g} q p e f h w = let z : r ≡ e = same_error h in let v 
   where
     same_error : ◌≡◌ {A = Result A Refused} (Err r) (Err e) → r ≡ e
     same_error h = cc
-
--- no token is left where the last reason is found
-pub none_left : (r : Refused) (xs : List Item) (s : Option Stop) (e : ℕ) → fault_of r ≡ Some (fault_at xs s e) → is_last (fault_of r) ≡ true → xs ≡ []
-none_left r (x ∷ xs) s e q h = absurd (let n : false ≡ true = sym (ap is_last q) ∙ h in (cc))
-none_left r [] s e q h = refl
 
 -- of a text
 pub refused_text : {d : Dialect} {text : List ℕ} {l : Lexed} {f : Fault} → Lex start text l → IsRefusal d (uncommented l) f → IsRefused d text f
@@ -173,5 +168,5 @@ whole_texts d (Ok x) says h p = whole_text h p
 whole_texts d (Err e) says h p = tt
 
 -- the tokens of all that a lexer has left
-pub opened : {t : Left} {l m n : Lexed} {a b : Aside} → t ≡ left_of 0 l a → m ≡ l → n ≡ m → a ≡ b → t ≡ left_of 0 n b
-opened {t} {l} {m} {n} {a} {b} w p q r = w ∙ ap (λ z. left_of 0 z a) (sym (q ∙ p)) ∙ ap (λ z. left_of 0 n z) r
+pub opened : {t : Left} {l m n : Lexed} {os us : List Item} {a b : Aside} → t ≡ left_of 0 l os a → m ≡ l → n ≡ m → os ≡ us → a ≡ b → t ≡ left_of 0 n us b
+opened {t} {l} {m} {n} {os} {us} {a} {b} w p q o r = w ∙ ap (λ z. left_of 0 z os a) (sym (q ∙ p)) ∙ ap (λ z. left_of 0 n z a) o ∙ ap (λ z. left_of 0 n us z) r

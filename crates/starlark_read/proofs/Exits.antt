@@ -18,19 +18,24 @@ use Rattle.starlark_grammar.specs.Frames.{Frames, State, has}
 use Rattle.starlark_grammar.specs.Machine.{step}
 use Rattle.starlark_grammar.specs.Runs.{Stuck, finish, met, note, run}
 use Rattle.starlark_grammar.specs.Verdicts.{Verdict, Unexpected, Broken, answer, broken_at, judge}
-use Rattle.starlark_read.specs.Reads.{Left, first_lexeme, Passes, SameEnd, Goes, Sticks, Answers, Comes, name_ahead}
+use Rattle.starlark_read.specs.Reads.{Left, behind_token, behind_tokens, first_lexeme, Passes, SameEnd, Goes, Sticks, Answers, Comes, name_ahead}
 use Rattle.starlark_grammar.proofs.Steps.{arrive, runs, runs_end, passes_on, stays_at}
 use Rattle.starlark_grammar.specs.Sorts.{name_of}
 
 -- where the tokens end
 pub same_end : {ts : Left} → SameEnd ts ts
-same_end = record { passed = []; items = refl; fault = refl; last = refl; aside = refl }
+same_end = record { passed = []; items = refl; fault = refl; last = refl; unasked = refl; aside = refl }
+
+-- the lexemes that are left behind some tokens and then others
+behind_more : (xs ys zs : List Item) → behind_tokens (length ys) (behind_tokens (length xs) zs) ≡ behind_tokens (length (xs ++ ys)) zs
+behind_more [] ys zs = refl
+behind_more (x ∷ xs) ys zs = behind_more xs ys (behind_token zs)
 
 pub then_end : {ts us vs : Left} → SameEnd ts us → SameEnd us vs → SameEnd ts vs
-then_end {us = us} {vs} p q = record { passed = p.passed ++ q.passed; items = p.items ∙ ap (λ xs. p.passed ++ xs) q.items ∙ sym (append_assoc p.passed q.passed vs.items); fault = q.fault ∙ p.fault; last = q.last ∙ p.last; aside = q.aside ∙ p.aside }
+then_end {ts} {us} {vs} p q = record { passed = p.passed ++ q.passed; items = p.items ∙ ap (λ xs. p.passed ++ xs) q.items ∙ sym (append_assoc p.passed q.passed vs.items); fault = q.fault ∙ p.fault; last = q.last ∙ p.last; unasked = q.unasked ∙ ap (λ zs. behind_tokens (length q.passed) zs) p.unasked ∙ behind_more p.passed q.passed ts.unasked; aside = q.aside ∙ p.aside }
 
 pub passes_end : {ts us : Left} {x : Item} → Passes ts x us → SameEnd ts us
-passes_end {ts} {us} {x} p = record { passed = x ∷ []; items = p.items; fault = p.fault; last = ap (λ n. last_end n us.items) p.last ∙ sym (ap (last_end ts.last) p.items); aside = p.aside }
+passes_end {ts} {us} {x} p = record { passed = x ∷ []; items = p.items; fault = p.fault; last = ap (λ n. last_end n us.items) p.last ∙ sym (ap (last_end ts.last) p.items); unasked = p.unasked; aside = p.aside }
 
 infixl 5 ◌>>◌
 pub ◌>>◌ : {d : Dialect} {s t u : State} {a b c : Left} → Goes d s a t b → Goes d t b u c → Goes d s a u c

@@ -28,6 +28,7 @@ as_read {ts} {us} {i} {j} {x} p = record {
   items = p.items ∙ ap (λ z. z ∷ us.items) (ap (λ n. item n x j) (sym (ap start p.items)) ∙ ap (λ n. item (start ts.items) x n) (sym p.last));
   fault = p.fault;
   last = refl;
+  unasked = p.unasked;
   aside = p.aside;
 }
 

@@ -19,11 +19,10 @@ kind_given (ahead.Fault e s) = kind.End
 
 -- those in memory
 abbrev pub left_in : Inside → Left
-left_in a = left_of a.last (with_ahead a.ahead (uncommented a.feed.lexer.left)) (aside_of a.ahead a.feed)
+left_in a = left_of a.last (with_ahead a.ahead (uncommented a.feed.lexer.left)) a.feed.lexer.left.items (aside_of a.ahead a.feed)
 
--- The lexer was asked, and what it gave is behind it and of that kind.
+-- What the lexer gave is behind it and of that kind.
 pub record IsCounted (a : Inside) : Type 0 where
-  pub asked : 1 ≤ a.feed.asks
   pub read : a.last ≤ a.feed.lexer.place
   pub ahead : ahead_end a.ahead ≤ a.feed.lexer.place
   pub kind : a.kind ≡ kind_given a.ahead

@@ -1,5 +1,5 @@
 -- What a function of the parser says.
-use Rattle.std.specs.Prelude.{◌≡◌, ℕ, List, [], ◌∷◌, ◌++◌, length, Option, Some, None, Result, Ok, Err, false}
+use Rattle.std.specs.Prelude.{◌≡◌, ℕ, zero, suc, if◌then◌else◌, List, [], ◌∷◌, ◌++◌, length, Option, Some, None, Result, Ok, Err, false}
 use Rattle.starlark_place.specs.Place.{extent}
 use Rattle.starlark_place.specs.declared.pos.Spanned.{Spanned}
 use Rattle.starlark_lexer.specs.Items.{Lexeme, string, Item, Stop, Lexed, nothing, with_item, with_fault, lexeme_of}
@@ -22,14 +22,16 @@ use Rattle.starlark_grammar.specs.Frames.{Lists, kind_listed, Frames, inside, li
 use Rattle.starlark_grammar.specs.Runs.{run}
 use Rattle.starlark_grammar.specs.Verdicts.{Verdict, judge}
 use Rattle.starlark_grammar.specs.Verdicts as verdict
-use Rattle.starlark_grammar.specs.Language.{last_end}
+use Rattle.starlark_grammar.specs.Language.{is_comment, last_end}
 
--- what is left to read: the tokens and the fault behind them, where the last token ends that was read, and what is told
--- of the whole text beside its tokens, which no reading changes
+-- what is left to read: the tokens and the fault behind them, the lexemes, comments among them, that the lexer has still to
+-- be asked for, where the last token ends that was read, and what is told of the whole text beside its tokens, which no
+-- reading changes
 pub record Left : Type 0 where
   pub last : ℕ
   pub items : List Item
   pub fault : Option Stop
+  pub unasked : List Item
   pub aside : Aside
 
 -- what the lexer has left, with the one token that was asked for ahead
@@ -38,8 +40,23 @@ with_ahead (ahead.Token s x) l = with_item s.begin (lexeme_of x) s.end l
 with_ahead ahead.End l = nothing
 with_ahead (ahead.Fault e s) l = with_fault s.begin e s.end
 
-abbrev pub left_of : ℕ → Lexed → Aside → Left
-left_of n l a = record { last = n; items = l.items; fault = l.fault; aside = a }
+abbrev pub left_of : ℕ → Lexed → List Item → Aside → Left
+left_of n l us a = record { last = n; items = l.items; fault = l.fault; unasked = us; aside = a }
+
+-- the lexemes behind the first one that is no comment
+abbrev pub behind_token : List Item → List Item
+behind_token [] = []
+behind_token (x ∷ xs) = if is_comment x.lexeme then behind_token xs else xs
+
+-- the lexemes behind the first n that are no comments
+abbrev pub behind_tokens : ℕ → List Item → List Item
+behind_tokens zero xs = xs
+behind_tokens (suc n) xs = behind_tokens n (behind_token xs)
+
+-- how often the lexer has still to be asked where these tokens and these lexemes are left: not at all behind the fault and the end
+abbrev pub asks_left : List Item → List Item → ℕ
+asks_left [] us = 0
+asks_left (x ∷ xs) us = suc (length us)
 
 -- the first token
 abbrev pub first_lexeme : List Item → Option Lexeme
@@ -97,6 +114,7 @@ pub record Passes (old : Left) (x : Item) (new : Left) : Type 0 where
   pub items : old.items ≡ x ∷ new.items
   pub fault : new.fault ≡ old.fault
   pub last : new.last ≡ x.end
+  pub unasked : new.unasked ≡ behind_token old.unasked
   pub aside : new.aside ≡ old.aside
 
 -- nothing but tokens that were read lies between
@@ -105,6 +123,7 @@ pub record SameEnd (ts us : Left) : Type 0 where
   pub items : ts.items ≡ passed ++ us.items
   pub fault : us.fault ≡ ts.fault
   pub last : last_end us.last us.items ≡ last_end ts.last ts.items
+  pub unasked : us.unasked ≡ behind_tokens (length passed) ts.unasked
   pub aside : us.aside ≡ ts.aside
 
 -- from s at the tokens ts the machine comes to u at the tokens us, and all that it meets there is right

@@ -1,5 +1,5 @@
 -- Why the code refuses, as the plain reasons.
-use Rattle.std.specs.Prelude.{ℕ, ◌∷◌, [], Bool, true, false, List, Option, Some, None}
+use Rattle.std.specs.Prelude.{ℕ, ◌∷◌, [], List, Option, Some, None}
 use Rattle.starlark_lexer.specs.Items.{Item, Stop}
 use Rattle.starlark_rulebook.specs.View.{rule_view}
 use Rattle.starlark_read.specs.declared.refused.Refused.{Refused}
@@ -15,12 +15,6 @@ fault_of (refused.Unexpected s) = Some (unexpected s)
 fault_of (refused.UnexpectedEnd p) = Some (unexpected_end p)
 fault_of (refused.Rule f) = Some (by_rule (rule_view f.node) f.span)
 fault_of refused.Memory = None
-
--- it is found where no token is left
-abbrev pub is_last : Option Fault → Bool
-is_last (Some (by_lexer e s)) = true
-is_last (Some (unexpected_end n)) = true
-is_last _ = false
 
 -- the reason why reading stops before these tokens
 abbrev pub fault_at : List Item → Option Stop → ℕ → Fault

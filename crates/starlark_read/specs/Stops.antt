@@ -1,8 +1,8 @@
 -- Where reading stops: how far a text was read that is refused.
-use Rattle.std.specs.Prelude.{ℕ, ◌-◌, List, [], ◌∷◌, drop, length}
-use Rattle.starlark_lexer.specs.Items.{Item}
+use Rattle.std.specs.Prelude.{ℕ, zero, suc, ◌-◌, if◌then◌else◌, List, [], ◌∷◌, drop, length}
+use Rattle.starlark_lexer.specs.Items.{Item, Lexed}
 use Rattle.starlark_lexer.specs.declared.dialect.Dialect.{Dialect}
-use Rattle.starlark_grammar.specs.Language.{last_end}
+use Rattle.starlark_grammar.specs.Language.{is_comment, last_end, uncommented}
 use Rattle.starlark_grammar.specs.Runs.{initial, run}
 use Rattle.starlark_grammar.specs.Verdicts.{Verdict, Fine, Unexpected, Broken, Spoilt, judge}
 
@@ -35,3 +35,14 @@ reached_by xs (Spoilt s f) = last_end 0 xs
 
 abbrev pub reached : Dialect → List Item → ℕ
 reached d xs = reached_by xs (answer_to d xs)
+
+-- How often the lexer is asked until it gives the token behind n others: for each of these, for that one, and for each comment
+-- before it. Where no token is left there, it is asked for each lexeme, and for the fault or the end.
+abbrev pub asks_until : ℕ → List Item → ℕ
+asks_until n [] = 1
+asks_until zero (x ∷ xs) = suc (if is_comment x.lexeme then asks_until zero xs else zero)
+asks_until (suc n) (x ∷ xs) = suc (asks_until (if is_comment x.lexeme then suc n else n) xs)
+
+-- how often it is asked until it gives what stands ahead where reading stops
+abbrev pub asked : Dialect → Lexed → ℕ
+asked d l = asks_until (length (uncommented l).items - left_over (answer_to d (uncommented l).items)) l.items

@@ -4,7 +4,7 @@ ghost use Rattle.std.specs.Prelude.{◌≡◌, ◌≤◌, ◌+◌, ◌*◌, ◌�
 ghost use Rattle.starlark_lexer.specs.Items.{lexeme_of};
 ghost use Rattle.starlark_read.specs.Asides.{ahead_end, aside_in, aside_of, in_all};
 ghost use Rattle.starlark_grammar.specs.Language.{is_comment, uncommented};
-ghost use Rattle.starlark_read.specs.Reads.{with_ahead};
+ghost use Rattle.starlark_read.specs.Reads.{behind_token, with_ahead};
 
 use crate::cost::Cost;
 use crate::told::Comments;
@@ -65,9 +65,9 @@ impl<'a> Feed<'a> {
     pub(crate) fn fetch(&mut self) -> Result<Lookahead, AllocError>
         ensures tokens { IfOk result (λ a. uncommented self.old.lexer.left ≡ with_ahead a (uncommented self.new.lexer.left)) }
         ensures aside { IfOk result (λ a. aside_of a self.new ≡ in_all self.old) }
+        ensures unasked { IfOk result (λ a. self.new.lexer.left.items ≡ behind_token self.old.lexer.left.items) }
         ensures reaches { IfOk result (λ a. ahead_end a ≤ self.new.lexer.place) }
         ensures on { self.old.lexer.place ≤ self.new.lexer.place }
-        ensures asked { 1 ≤ self.new.asks }
     {
         let mut ahead = Lookahead::End;
         self.advance(&mut ahead)?;
@@ -78,10 +78,10 @@ impl<'a> Feed<'a> {
     pub(crate) fn advance(&mut self, ahead: &mut Lookahead) -> Result<(), AllocError>
         ensures tokens { IfOk result (λ u. uncommented self.old.lexer.left ≡ with_ahead ahead.new (uncommented self.new.lexer.left)) }
         ensures aside { IfOk result (λ u. aside_of ahead.new self.new ≡ in_all self.old) }
+        ensures unasked { IfOk result (λ u. self.new.lexer.left.items ≡ behind_token self.old.lexer.left.items) }
         ensures reaches { IfOk result (λ u. ahead_end ahead.new ≤ self.new.lexer.place) }
         ensures kept { IfErr result (λ e. ahead.new ≡ ahead.old) }
         ensures on { self.old.lexer.place ≤ self.new.lexer.place }
-        ensures asked { 1 ≤ self.new.asks }
     {
         while let Some(answer) = self.lexer.next() {
             self.asks = self.asks.saturating_add(1);

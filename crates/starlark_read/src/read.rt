@@ -1,15 +1,15 @@
 //! A whole text.
 
-ghost use Rattle.std.specs.Prelude.{◌≡◌, ◌≢◌, ◌≤◌, ◌+◌, ◌*◌, ℕ, IfErr, IfOk, IsErr, List, true, false, None, Some, Err, [], suc, length};
-ghost use Rattle.starlark_lexer.specs.Items.{Lexed};
+ghost use Rattle.std.specs.Prelude.{◌≡◌, ◌≢◌, ◌<◌, ◌≤◌, ◌+◌, ◌*◌, ℕ, IfErr, IfOk, IsErr, List, false, None, Some, Err, [], suc, length};
+ghost use Rattle.starlark_lexer.specs.Items.{Item, Lexed};
 ghost use Rattle.starlark_lexer.specs.Lex.{Lex, start};
 ghost use Rattle.starlark_read.specs.declared.refused.Refused.{Refused};
 ghost use Rattle.starlark_read.specs.Asides.{Aside, counted};
 ghost use Rattle.starlark_grammar.specs.Comments.{comments_in, joined_in};
 ghost use Rattle.starlark_grammar.specs.Language.{Fault, IsProgram, IsRefusal, IsRefused, Language, last_end, uncommented};
 ghost use Rattle.starlark_read.specs.Reads.{left_of, SameEnd};
-ghost use Rattle.starlark_read.specs.Refused.{fault_of, is_last};
-ghost use Rattle.starlark_read.specs.Stops.{answer_to, end_ahead, left_over, reached};
+ghost use Rattle.starlark_read.specs.Refused.{fault_of};
+ghost use Rattle.starlark_read.specs.Stops.{answer_to, asked, end_ahead, left_over, reached};
 
 use crate::block::block;
 use crate::error::Error;
@@ -42,11 +42,7 @@ pub fn read<B: Build>(
     ensures asks { IfOk result (λ x. told.new.cost.asks ≡ counted (suc (length lexer.entry.left.items))) }
     ensures reads { IfOk result (λ x. last_end 0 (uncommented lexer.entry.left).items ≤ told.new.cost.reads) }
     ensures bounded { IfOk result (λ x. told.new.cost.reads ≤ 16 * lexer.entry.size + 16) }
-    ensures some { IfErr result (λ e. fault_of e ≢ None → 1 ≤ told.new.cost.asks) }
-    ensures most { IfErr result (λ e. fault_of e ≢ None → told.new.cost.asks ≤ counted (suc (length lexer.entry.left.items))) }
-    ensures last { IfErr result (λ e. is_last (fault_of e) ≡ true → told.new.cost.asks ≡ counted (suc (length lexer.entry.left.items))) }
-    ensures each { IfErr result (λ e. fault_of e ≢ None → counted (suc (length lexer.entry.left.items)) ≤ told.new.cost.asks + (left_over (answer_to dialect.now (uncommented lexer.entry.left).items) + length (comments_in lexer.entry.left.items))) }
-    ensures few { IfErr result (λ e. fault_of e ≢ None → counted (told.new.cost.asks + left_over (answer_to dialect.now (uncommented lexer.entry.left).items)) ≤ counted (suc (length lexer.entry.left.items))) }
+    ensures asked { IfErr result (λ e. fault_of e ≢ None → suc (length lexer.entry.left.items) < 18446744073709551615 → told.new.cost.asks ≡ asked dialect.now lexer.entry.left) }
     ensures reached { IfErr result (λ e. fault_of e ≢ None → reached dialect.now (uncommented lexer.entry.left).items ≤ told.new.cost.reads) }
     ensures spent { IfErr result (λ e. fault_of e ≢ None → told.new.cost.reads ≤ 16 * lexer.entry.size + 16) }
 {
@@ -70,13 +66,12 @@ pub fn read<B: Build>(
 
 /// The tree of all tokens, or why there is none.
 fn program<B: Build>(tokens: &mut Tokens<'_>, dialect: &Dialect) -> Result<B::Stmt, Refused>
-    ensures whole { (l : Lexed) (a : Aside) → tokens.old ≡ left_of 0 l a → IfOk result (λ x. (l.fault ≡ None) × IsProgram dialect.now l.items (B.says x)) }
-    ensures refused { (l : Lexed) (a : Aside) → tokens.old ≡ left_of 0 l a → (e : Refused) (f : Fault) → result ≡ Err e → fault_of e ≡ Some f → IsRefusal dialect.now l f }
+    ensures whole { (l : Lexed) (us : List Item) (a : Aside) → tokens.old ≡ left_of 0 l us a → IfOk result (λ x. (l.fault ≡ None) × IsProgram dialect.now l.items (B.says x)) }
+    ensures refused { (l : Lexed) (us : List Item) (a : Aside) → tokens.old ≡ left_of 0 l us a → (e : Refused) (f : Fault) → result ≡ Err e → fault_of e ≡ Some f → IsRefusal dialect.now l f }
     ensures ended { IfOk result (λ x. (tokens.new.items ≡ []) × SameEnd tokens.old tokens.new) }
-    ensures last { IfErr result (λ e. is_last (fault_of e) ≡ true → tokens.new.items ≡ []) }
-    ensures aside { IfErr result (λ e. fault_of e ≢ None → tokens.new.aside ≡ tokens.old.aside) }
-    ensures left { (l : Lexed) (a : Aside) → tokens.old ≡ left_of 0 l a → IfErr result (λ e. fault_of e ≢ None → length tokens.new.items ≡ left_over (answer_to dialect.now l.items)) }
-    ensures reached { (l : Lexed) (a : Aside) → tokens.old ≡ left_of 0 l a → IfErr result (λ e. fault_of e ≢ None → reached dialect.now l.items ≤ end_ahead tokens.new.last tokens.new.items) }
+    ensures behind { IfErr result (λ e. fault_of e ≢ None → SameEnd tokens.old tokens.new) }
+    ensures left { (l : Lexed) (us : List Item) (a : Aside) → tokens.old ≡ left_of 0 l us a → IfErr result (λ e. fault_of e ≢ None → length tokens.new.items ≡ left_over (answer_to dialect.now l.items)) }
+    ensures reached { (l : Lexed) (us : List Item) (a : Aside) → tokens.old ≡ left_of 0 l us a → IfErr result (λ e. fault_of e ≢ None → reached dialect.now l.items ≤ end_ahead tokens.new.last tokens.new.items) }
 {
     let TopStatements { items, are_clean } = match statements::<B>(tokens, dialect) {
         Ok(statements) => statements,

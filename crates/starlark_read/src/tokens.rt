@@ -1,6 +1,6 @@
 //! The tokens of a text, with one token of look-ahead.
 
-ghost use Rattle.std.specs.Prelude.{◌≡◌, ◌≢◌, ◌≤◌, ◌+◌, ◌*◌, [], length, IfOk, MatchOption, Some, None, true, string_bytes, Err, max};
+ghost use Rattle.std.specs.Prelude.{◌≡◌, ◌≢◌, ◌≤◌, ◌+◌, ◌*◌, [], IfOk, MatchOption, Some, None, true, string_bytes, Err, max};
 ghost use Rattle.std.specs.Bool.{MatchBool};
 ghost use Rattle.starlark_place.specs.declared.pos.Spanned.{Spanned};
 ghost use Rattle.starlark_lexer.specs.Items.{item, lexeme_of, identifier, string};
@@ -15,7 +15,7 @@ ghost use Rattle.starlark_grammar.specs.Nodes.{start};
 ghost use Rattle.starlark_grammar.specs.Spans.{stretch};
 ghost use Rattle.starlark_grammar.specs.Verdicts.{begins_test};
 ghost use Rattle.starlark_read.specs.Refused.{fault_ahead, fault_of};
-ghost use Rattle.starlark_read.specs.Reads.{left_of, with_ahead, first_lexeme, grade_ahead, name_ahead, string_ahead, Passes};
+ghost use Rattle.starlark_read.specs.Reads.{asks_left, left_of, with_ahead, first_lexeme, grade_ahead, name_ahead, string_ahead, Passes};
 ghost use Rattle.starlark_read.specs.Stops.{end_ahead};
 
 use crate::cost::Cost;
@@ -76,9 +76,8 @@ fn kind_given(ahead: &Lookahead) -> Kind
 impl<'a> Tokens<'a> {
     /// What the lexer gave first, and all that it has left.
     pub(crate) fn new(alloc: Global, feed: Feed<'a>, ahead: Lookahead) -> Tokens<'a>
-        requires asked { 1 ≤ feed.asks }
         requires reached { ahead_end ahead ≤ feed.lexer.place }
-        ensures { result ≡ left_of 0 (with_ahead ahead (uncommented feed.entry.lexer.left)) (aside_of ahead feed.entry) }
+        ensures { result ≡ left_of 0 (with_ahead ahead (uncommented feed.entry.lexer.left)) feed.entry.lexer.left.items (aside_of ahead feed.entry) }
     {
         let kind = kind_given(&ahead);
         Tokens {
@@ -92,11 +91,8 @@ impl<'a> Tokens<'a> {
 
     /// What the reading took so far.
     pub(crate) fn cost(&self) -> Cost
-        ensures some { 1 ≤ result.asks }
-        ensures most { result.asks ≤ self.now.aside.asks }
+        ensures asks { self.now.aside.asks ≡ counted (result.asks + asks_left self.now.items self.now.unasked) }
         ensures whole { self.now.items ≡ [] → result.asks ≡ self.now.aside.asks }
-        ensures each { self.now.aside.asks ≤ result.asks + (length self.now.items + length self.now.aside.comments) }
-        ensures few { counted (result.asks + length self.now.items) ≤ self.now.aside.asks }
         ensures reads { self.now.last ≤ result.reads }
         ensures ahead { end_ahead self.now.last self.now.items ≤ result.reads }
         ensures bounded { result.reads ≤ 16 * self.now.aside.size + 16 }

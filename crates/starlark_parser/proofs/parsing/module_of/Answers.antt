@@ -15,7 +15,7 @@ pub returns-in-Err-clause-fault : goal.returns-in-Err-clause-fault
 returns-in-Err-clause-fault c = fault_told c.args.dialect.now _ c.in-Ok.codemap c.source.result.now (fault_of c.in-Err.refused) c.refusal.result (search rules) c.source.ensures.is c.refusal.ensures (λ f w. c.refused_goes_on.ensures c.args.dialect.now c.source.result.now f (c.in-Err.ensures.reason c.source.result.now c.in-Err.refused f c.new-lexer.ensures.left (search rules) w))
 
 pub returns-in-Err-clause-cost : goal.returns-in-Err-clause-cost
-returns-in-Err-clause-cost c = refused_cost _ _ (capped_at (search rules) c.at_most.ensures.reads c.at_most.ensures.asks) (fault_of c.in-Err.refused) _ c.refusal.result c.refusal.ensures (c.source.ensures.is ∙ ap (λ m. m.source) c.in-Ok.ensures.made) c.new-lexer.ensures.left (search rules) c.in_order.ensures.few c.in-Err.ensures.some c.in-Err.ensures.most c.new-lexer.ensures.size c.in-Err.ensures.spent c.in-Err.ensures.last (λ h. record { each = c.in-Err.ensures.each h; few = c.in-Err.ensures.few h; reached = c.in-Err.ensures.reached h })
+returns-in-Err-clause-cost c = refused_cost _ _ (capped_at (search rules) c.at_most.ensures.reads c.at_most.ensures.asks) (fault_of c.in-Err.refused) _ c.refusal.result c.refusal.ensures (c.source.ensures.is ∙ ap (λ m. m.source) c.in-Ok.ensures.made) c.new-lexer.ensures.left (search rules) c.in_order.ensures.few c.new-lexer.ensures.size c.in-Err.ensures.spent (λ h. record { asked = c.in-Err.ensures.asked h; reached = c.in-Err.ensures.reached h })
 
 pub returns-in-Ok-answer-clause-cost : goal.returns-in-Ok-answer-clause-cost
 returns-in-Ok-answer-clause-cost c = whole_cost (capped_at (search rules) c.at_most.ensures.reads c.at_most.ensures.asks) (c.source.ensures.is ∙ ap (λ m. m.source) c.in-Ok.ensures.made) c.new-lexer.ensures.left c.in-Ok-answer.ensures.whole.0 (search rules) c.in_order.ensures.few c.in-Ok-answer.ensures.asks c.in-Ok-answer.ensures.reads c.new-lexer.ensures.size c.in-Ok-answer.ensures.bounded

@@ -4,7 +4,7 @@ use Rattle.starlark_ast.specs.Tree.{load}
 use Rattle.starlark_grammar.specs.Frames.{behind_small, load_symbol}
 use Rattle.starlark_grammar.specs.Made.{symbols_of}
 use Rattle.starlark_grammar.specs.Spans.{stretch}
-use Rattle.starlark_read.proofs.Exits.{◌>>◌, exits, gives, goes, left_it, missing, read_it, renamed, state_is, stays_there, sticks}
+use Rattle.starlark_read.proofs.Exits.{◌>>◌, begins, exits, gives, goes, left_it, missing, read_it, renamed, state_is, stays_there, sticks}
 use Rattle.starlark_read.proofs.Loading.{no_symbol_end, symbol_and_comma, symbol_more}
 use Rattle.starlark_read.proofs.Suffixing.{since_there, unlike}
 use Rattle.starlark_read.proofs.load.symbols.Goals as goal
@@ -33,6 +33,12 @@ returns-then-not-branch-clause-reads g c d p m k =
     let ss = symbols_of f c.loop-found.found.items in
     let one = symbol_more f _ _ _ _ _ c.in_ok-push.ensures.items c.symbol.ensures in
     gives (state_is (c.loop-found.invariant.reads d p m k >> renamed a.0 >> (c.in_ok-local.ensures.reads d p m ss k (unlike a.0 a.1)).comes _ refl >> renamed b.0 >> goes c.in_ok-expect.ensures.read refl refl) (ap (λ z. behind_small (load m z (stretch p c.expect.new.self.last)) k) (sym one)))
+
+pub loop-found-init : goal.loop-found-init
+loop-found-init g c = record {
+  reads = λ d p m k. state_is begins (ap (λ xs. load_symbol p m (symbols_of g.B.Make.symbol_means xs) k) (sym c.new-found.ensures.items));
+  shorter = omega arith;
+}
 
 pub loop-found-preserved : goal.loop-found-preserved
 loop-found-preserved g c =

@@ -3,32 +3,32 @@ use Rattle.starlark_rulebook.specs.View.{maybe_finding}
 use Rattle.starlark_grammar.specs.Events.{end_finding}
 use Rattle.starlark_grammar.specs.Made.{sequence_of}
 use Rattle.starlark_grammar.specs.Nodes.{block_of}
-use Rattle.starlark_read.proofs.Answering.{broken_from, fault_is, fine_is, given, left_read, none_left, reached_read, read_as, read_from, spoilt_is, stuck_from}
+use Rattle.starlark_read.proofs.Answering.{broken_from, fault_is, fine_is, given, left_read, reached_read, read_as, read_from, spoilt_is, stuck_from}
 use Rattle.starlark_read.proofs.read.program.Goals as goal
 
 pub returns-in-Err-Unexpected-clause-refused : goal.returns-in-Err-Unexpected-clause-refused
-returns-in-Err-Unexpected-clause-refused g c l a w = given c.refusal.ensures (stuck_from _ w (c.statements.ensures.reads.stuck (search rules)))
+returns-in-Err-Unexpected-clause-refused g c l us a w = given c.refusal.ensures (stuck_from _ w (c.statements.ensures.reads.stuck (search rules)))
 
 pub returns-in-Err-Broken-clause-refused : goal.returns-in-Err-Broken-clause-refused
-returns-in-Err-Broken-clause-refused g c l a w = given refl (broken_from c.in-Err-Broken.rule w (c.statements.ensures.reads.breaks c.in-Err-Broken.rule (search rules)))
+returns-in-Err-Broken-clause-refused g c l us a w = given refl (broken_from c.in-Err-Broken.rule w (c.statements.ensures.reads.breaks c.in-Err-Broken.rule (search rules)))
 
 pub returns-in-Some-clause-refused : goal.returns-in-Some-clause-refused
-returns-in-Some-clause-refused g c l a w = given c.in-Some.ensures.1 (fault_is (read_from _ _ w (c.statements.ensures.reads.comes c.in-Ok.statements (search rules)) c.in-Ok.ensures.whole) c.in-Some.ensures.0)
+returns-in-Some-clause-refused g c l us a w = given c.in-Some.ensures.1 (fault_is (read_from _ _ w (c.statements.ensures.reads.comes c.in-Ok.statements (search rules)) c.in-Ok.ensures.whole) c.in-Some.ensures.0)
 
 pub returns-in-Some-2-clause-refused : goal.returns-in-Some-2-clause-refused
-returns-in-Some-2-clause-refused g c l a w =
+returns-in-Some-2-clause-refused g c l us a w =
     let ss = sequence_of g.B.Make.says c.in-Ok.statements.items.items in
     let r = read_as (g.B.Make.says c.block-tree.result) (read_from _ ss w (c.statements.ensures.reads.comes c.in-Ok.statements (search rules)) c.in-Ok.ensures.whole) (c.block-tree.ensures ∙ ap (block_of ss) c.last.ensures) in
     given refl (spoilt_is c.in-Some-2.rule r (c.in_default.ensures c.in-Ok.ensures.whole) (sym c.in_ok-rule.ensures ∙ ap maybe_finding c.in-Some-2.is))
 
 pub returns-in-None-clause-whole : goal.returns-in-None-clause-whole
-returns-in-None-clause-whole g c l a w =
+returns-in-None-clause-whole g c l us a w =
     let ss = sequence_of g.B.Make.says c.in-Ok.statements.items.items in
     let r = read_as (g.B.Make.says c.block-tree.result) (read_from _ ss w (c.statements.ensures.reads.comes c.in-Ok.statements (search rules)) c.in-Ok.ensures.whole) (c.block-tree.ensures ∙ ap (block_of ss) c.last.ensures) in
     fine_is r (c.in_default.ensures c.in-Ok.ensures.whole) (sym c.in_ok-rule.ensures ∙ ap maybe_finding c.in-None.is)
 
 pub returns-then-are_clean-clause-whole : goal.returns-then-are_clean-clause-whole
-returns-then-are_clean-clause-whole g c l a w =
+returns-then-are_clean-clause-whole g c l us a w =
     let ss = sequence_of g.B.Make.says c.in-Ok.statements.items.items in
     let r = read_as (g.B.Make.says c.block-tree.result) (read_from _ ss w (c.statements.ensures.reads.comes c.in-Ok.statements (search rules)) c.in-Ok.ensures.whole) (c.block-tree.ensures ∙ ap (block_of ss) c.last.ensures) in
     fine_is r (c.in_default.ensures c.in-Ok.ensures.whole) (ap (end_finding _) c.block-tree.ensures ∙ c.in-Ok.ensures.clean c.if-are_clean.true _)
@@ -39,32 +39,26 @@ returns-then-are_clean-clause-ended g c = (c.in-Ok.ensures.whole, (c.statements.
 pub returns-in-None-clause-ended : goal.returns-in-None-clause-ended
 returns-in-None-clause-ended g c = (c.in-Ok.ensures.whole, (c.statements.ensures.reads.comes c.in-Ok.statements (search rules)).behind)
 
-pub returns-in-Err-Unexpected-clause-aside : goal.returns-in-Err-Unexpected-clause-aside
-returns-in-Err-Unexpected-clause-aside g c h = (c.statements.ensures.reads.stuck (search rules)).behind.aside
+pub returns-in-Err-Unexpected-clause-behind : goal.returns-in-Err-Unexpected-clause-behind
+returns-in-Err-Unexpected-clause-behind g c h = (c.statements.ensures.reads.stuck (search rules)).behind
 
-pub returns-in-Err-Broken-clause-aside : goal.returns-in-Err-Broken-clause-aside
-returns-in-Err-Broken-clause-aside g c h = (c.statements.ensures.reads.breaks c.in-Err-Broken.rule (search rules)).behind.aside
+pub returns-in-Err-Broken-clause-behind : goal.returns-in-Err-Broken-clause-behind
+returns-in-Err-Broken-clause-behind g c h = (c.statements.ensures.reads.breaks c.in-Err-Broken.rule (search rules)).behind
 
-pub returns-in-Some-clause-aside : goal.returns-in-Some-clause-aside
-returns-in-Some-clause-aside g c h = (c.statements.ensures.reads.comes c.in-Ok.statements (search rules)).behind.aside
+pub returns-in-Some-clause-behind : goal.returns-in-Some-clause-behind
+returns-in-Some-clause-behind g c h = (c.statements.ensures.reads.comes c.in-Ok.statements (search rules)).behind
 
-pub returns-in-Some-2-clause-aside : goal.returns-in-Some-2-clause-aside
-returns-in-Some-2-clause-aside g c h = (c.statements.ensures.reads.comes c.in-Ok.statements (search rules)).behind.aside
-
-pub returns-in-Err-Unexpected-clause-last : goal.returns-in-Err-Unexpected-clause-last
-returns-in-Err-Unexpected-clause-last g c h = none_left c.refusal.result _ _ _ c.refusal.ensures h
-
-pub returns-in-Some-clause-last : goal.returns-in-Some-clause-last
-returns-in-Some-clause-last g c h = c.in-Ok.ensures.whole
+pub returns-in-Some-2-clause-behind : goal.returns-in-Some-2-clause-behind
+returns-in-Some-2-clause-behind g c h = (c.statements.ensures.reads.comes c.in-Ok.statements (search rules)).behind
 
 pub returns-in-Some-clause-left : goal.returns-in-Some-clause-left
-returns-in-Some-clause-left g c l a w h = left_read (read_from _ _ w (c.statements.ensures.reads.comes c.in-Ok.statements (search rules)) c.in-Ok.ensures.whole)
+returns-in-Some-clause-left g c l us a w h = left_read (read_from _ _ w (c.statements.ensures.reads.comes c.in-Ok.statements (search rules)) c.in-Ok.ensures.whole)
 
 pub returns-in-Some-clause-reached : goal.returns-in-Some-clause-reached
-returns-in-Some-clause-reached g c l a w h = reached_read w (c.statements.ensures.reads.comes c.in-Ok.statements (search rules)).behind (read_from _ _ w (c.statements.ensures.reads.comes c.in-Ok.statements (search rules)) c.in-Ok.ensures.whole)
+returns-in-Some-clause-reached g c l us a w h = reached_read w (c.statements.ensures.reads.comes c.in-Ok.statements (search rules)).behind (read_from _ _ w (c.statements.ensures.reads.comes c.in-Ok.statements (search rules)) c.in-Ok.ensures.whole)
 
 pub returns-in-Some-2-clause-left : goal.returns-in-Some-2-clause-left
-returns-in-Some-2-clause-left g c l a w h = left_read (read_from _ _ w (c.statements.ensures.reads.comes c.in-Ok.statements (search rules)) c.in-Ok.ensures.whole)
+returns-in-Some-2-clause-left g c l us a w h = left_read (read_from _ _ w (c.statements.ensures.reads.comes c.in-Ok.statements (search rules)) c.in-Ok.ensures.whole)
 
 pub returns-in-Some-2-clause-reached : goal.returns-in-Some-2-clause-reached
-returns-in-Some-2-clause-reached g c l a w h = reached_read w (c.statements.ensures.reads.comes c.in-Ok.statements (search rules)).behind (read_from _ _ w (c.statements.ensures.reads.comes c.in-Ok.statements (search rules)) c.in-Ok.ensures.whole)
+returns-in-Some-2-clause-reached g c l us a w h = reached_read w (c.statements.ensures.reads.comes c.in-Ok.statements (search rules)).behind (read_from _ _ w (c.statements.ensures.reads.comes c.in-Ok.statements (search rules)) c.in-Ok.ensures.whole)
