@@ -1,6 +1,6 @@
 //! How a run ends, and how the program tells it.
 
-ghost use Rattle.std.specs.Prelude.{◌≡◌, codes, IfOk, IfErr};
+ghost use Rattle.std.specs.Prelude.{◌≡◌, ◌≢◌, codes, IfOk, IfErr};
 
 use std::io;
 
@@ -27,7 +27,9 @@ pub(crate) enum RunFault {
 
 impl RunFault {
     /// The fault of a read that failed.
-    pub(crate) fn of_read(error: io::Error) -> RunFault {
+    pub(crate) fn of_read(error: io::Error) -> RunFault
+        ensures { result ≢ RunFault.Write }
+    {
         if error.kind() == io::ErrorKind::OutOfMemory {
             RunFault::Memory
         } else {
@@ -36,7 +38,9 @@ impl RunFault {
     }
 
     /// The fault of a write that failed.
-    pub(crate) fn of_write(_error: io::Error) -> RunFault {
+    pub(crate) fn of_write(_error: io::Error) -> RunFault
+        ensures { result ≡ RunFault.Write }
+    {
         RunFault::Write
     }
 }

@@ -1,5 +1,7 @@
 //! Runs: a stream of queries, or one text.
 
+ghost use Rattle.std.specs.Prelude.{◌≡◌, IfOk};
+
 use crate::answer::{Refused, answer};
 use crate::fault::{End, RunFault};
 use crate::query::{Query, Question, query_of};
@@ -75,7 +77,9 @@ fn write_answer<W: Write>(
 }
 
 /// Answers `bad`, behind which nothing is read.
-pub(crate) fn run_bad<W: Write>(writer: &mut W) -> Result<End, RunFault> {
+pub(crate) fn run_bad<W: Write>(writer: &mut W) -> Result<End, RunFault>
+    ensures { IfOk result (λ e. e ≡ End.Bad) }
+{
     writer.write_all(b"bad\n").map_err(RunFault::of_write)?;
     Ok(End::Bad)
 }
@@ -119,7 +123,9 @@ pub(crate) fn run_text<R: Read + Drop, W: Write>(
     mut reader: R,
     writer: &mut W,
     question: Question,
-) -> Result<End, RunFault> {
+) -> Result<End, RunFault>
+    ensures { IfOk result (λ e. e ≡ End.Whole) }
+{
     let text = read_all(alloc, &mut reader)?;
     write_answer(alloc, writer, question, text)?;
     Ok(End::Whole)

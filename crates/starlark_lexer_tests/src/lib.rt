@@ -26,3 +26,5 @@ mod spans;
 mod strings;
 #[cfg(test)]
 mod tokens;
+#[cfg(test)]
+mod traits;

@@ -1,9 +1,9 @@
 //! Spans, and what places print.
 
-use crate::check::equal;
+use crate::check::{equal, holds};
 use crate::common::span;
 use crate::maker::Maker;
-use starlark_place::pos::{Span, Spanned};
+use starlark_place::pos::{Pos, Span, Spanned};
 use starlark_place::resolved::{ResolvedPos, ResolvedSpan};
 
 /// Lines and columns of a span's begin and end, all from 0, and what it prints.
@@ -51,4 +51,28 @@ fn spans(rt: HostRuntime) {
     *place = 4;
     equal(&rt, *place.as_ref().node, 4);
     equal(&rt, place.map(|n| n / 2).node, 2);
+}
+
+/// Both ends of a span are in it.
+#[test]
+fn ends(rt: HostRuntime) {
+    let place = span(2, 4);
+    equal(&rt, place.end_span(), span(4, 4));
+    holds(
+        &rt,
+        place.contains(Pos::new(2)) && place.contains(Pos::new(4)),
+    );
+    holds(&rt, !place.contains(Pos::new(5)));
+    let resolved = ResolvedSpan {
+        begin: ResolvedPos { line: 0, column: 3 },
+        end: ResolvedPos { line: 2, column: 1 },
+    };
+    holds(
+        &rt,
+        resolved.contains(resolved.begin) && resolved.contains(resolved.end),
+    );
+    holds(&rt, !resolved.contains(ResolvedPos { line: 2, column: 2 }));
+    let mut pos = Pos::new(1) + 4;
+    pos += 2;
+    equal(&rt, pos - 3, Pos::new(4));
 }

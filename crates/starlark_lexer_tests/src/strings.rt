@@ -74,4 +74,11 @@ fn cursors(rt: HostRuntime) {
     equal(&rt, chars.next(), Some('é'));
     equal(&rt, chars.next(), None);
     equal(&rt, chars.pos(), 3);
+    chars.unnext('é');
+    equal(&rt, chars.pos(), 1);
+    equal(
+        &rt,
+        CharIndex(2) + CharIndex(3) - CharIndex(1),
+        CharIndex(4),
+    );
 }

@@ -13,7 +13,15 @@ use std::io::{Read, Write};
 pub(crate) const NEVER: usize = usize::MAX;
 
 fn failure() -> io::Error {
-    io::Error::from(io::ErrorKind::Other)
+    io::Error::from(io::ErrorKind::BrokenPipe)
+}
+
+/// The call fails as the device does.
+fn fails<T: Drop>(answer: io::Result<T>) -> bool {
+    match answer {
+        Ok(_) => false,
+        Err(error) => error.kind() == io::ErrorKind::BrokenPipe,
+    }
 }
 
 /// Hands out one byte a read. The call of one number, counted from 0, fails, and those behind it go on.
@@ -276,7 +284,7 @@ fn watched_reader(rt: HostRuntime) {
     );
     holds(
         &rt,
-        reader.pull(&mut buffer).is_err() && Source::failed(&reader),
+        fails(reader.pull(&mut buffer)) && Source::failed(&reader),
     );
     holds(
         &rt,
@@ -296,7 +304,7 @@ fn watched_writer(rt: HostRuntime) {
     );
     holds(
         &rt,
-        !Sink::failed(&writer) && writer.put(b"b").is_err() && Sink::failed(&writer),
+        !Sink::failed(&writer) && fails(writer.put(b"b")) && Sink::failed(&writer),
     );
     holds(
         &rt,
@@ -312,21 +320,26 @@ fn watched_writer(rt: HostRuntime) {
 #[test]
 fn watched_flush(rt: HostRuntime) {
     let mut writer = Watched::new(Tight::new(&rt, 0, NEVER));
-    holds(&rt, writer.flush().is_err() && Sink::failed(&writer));
+    holds(&rt, fails(writer.flush()) && Sink::failed(&writer));
     equal(&rt, writer.into_inner().calls, 1);
 }
+
+/// As many bytes as a run reads and writes at once.
+static BLOCK: [u8; 4096] = [b'a'; 4096];
 
 /// All the room and all the bytes are passed on, by the calls of std and by those of our own.
 #[test]
 fn watched_whole(rt: HostRuntime) {
-    let mut reader = Watched::new(Pausing { calls: 0 });
-    holds(&rt, matches!(reader.pull(&mut [0u8; 16]), Ok(8)));
-    let mut reader = Watched::new(Pausing { calls: 0 });
-    holds(&rt, matches!(reader.read(&mut [0u8; 16]), Ok(8)));
+    let mut room = [0u8; 4096];
+    let block: &[u8] = &BLOCK;
+    let mut reader = Watched::new(block);
+    holds(&rt, matches!(reader.pull(&mut room), Ok(4096)));
+    let mut reader = Watched::new(block);
+    holds(&rt, matches!(reader.read(&mut room), Ok(4096)));
     let mut writer = Watched::new(Vec::new(rt.alloc()));
-    holds(&rt, matches!(writer.put(b"ab"), Ok(2)));
-    holds(&rt, matches!(writer.write(b"c"), Ok(1)));
-    count(&rt, writer.into_inner().len(), 3);
+    holds(&rt, matches!(writer.put(block), Ok(4096)));
+    holds(&rt, matches!(writer.write(block), Ok(4096)));
+    count(&rt, writer.into_inner().len(), 8192);
 }
 
 /// A read and a write of std that fail are passed on once, and their answer is kept in mind.
@@ -340,7 +353,7 @@ fn watched_failures(rt: HostRuntime) {
     });
     holds(
         &rt,
-        reader.read(&mut [0u8; 2]).is_err() && Source::failed(&reader),
+        fails(reader.read(&mut [0u8; 2])) && Source::failed(&reader),
     );
     equal(&rt, reader.into_inner().calls, 1);
     let mut writer = Watched::new(Tight::new(&rt, 1, 0));
@@ -348,7 +361,7 @@ fn watched_failures(rt: HostRuntime) {
         &rt,
         matches!(writer.write(b"ab"), Ok(0)) && !Sink::failed(&writer),
     );
-    holds(&rt, writer.write(b"ab").is_err() && Sink::failed(&writer));
+    holds(&rt, fails(writer.write(b"ab")) && Sink::failed(&writer));
     equal(&rt, writer.into_inner().calls, 2);
 }
 

@@ -183,28 +183,39 @@ fn counted(rt: &impl Abort, parts: &mut Parts) -> Result<(), Fail> {
     Ok(())
 }
 
-/// What an edit tells is what its text takes, from the lexer, up to the end.
+/// How often the lexer is asked of a text, and how many looks that takes.
+static COSTS: [(&str, u64); 4] = [
+    ("def f(x):\n  return [x, 1.5, \"a\"] # c\n", 21),
+    // it is not closed
+    ("x = 1", 5),
+    // a token that is refused, and a rule that is broken, before comments
+    ("x = ) # c\n", 3),
+    ("1 = 2 ) # c\n", 4),
+];
+
+/// What an edit tells is what its text takes from the lexer, whether it is taken or refused.
 #[test]
 fn costs_of_a_text(rt: HostRuntime) -> Result<(), Fail> {
-    let text = "def f(x):\n  return [x, 1.5, \"a\"] # c\n";
-    let mut parts = Parts::new(rt.alloc(), &Dialect::Standard);
-    let done = parts.insert(0, text.as_bytes());
-    let cost = parts.last_cost();
-    parts.release();
-    done?;
-    let map = CodeMap::new(
-        rt.alloc(),
-        CodeMapId(1),
-        String::from_str(rt.alloc(), "t")?,
-        String::from_str(rt.alloc(), text)?,
-    )?;
-    let mut lexer = Lexer::new(rt.alloc(), text, &Dialect::Standard, map);
-    let mut asks = 1u64;
-    for item in &mut lexer {
-        holds(&rt, item.is_ok());
-        asks = asks.wrapping_add(1);
+    for (text, asks) in &COSTS {
+        let mut parts = Parts::new(rt.alloc(), &Dialect::Standard);
+        holds(
+            &rt,
+            !matches!(parts.insert(0, text.as_bytes()), Err(PartFault::Memory)),
+        );
+        let cost = parts.last_cost();
+        parts.release();
+        let map = CodeMap::new(
+            rt.alloc(),
+            CodeMapId(1),
+            String::from_str(rt.alloc(), "t")?,
+            String::from_str(rt.alloc(), text)?,
+        )?;
+        let mut lexer = Lexer::new(rt.alloc(), text, &Dialect::Standard, map);
+        for _ in 0..*asks {
+            let _ = lexer.next();
+        }
+        equal(&rt, (cost.reads, cost.asks), (lexer.reads(), *asks));
     }
-    equal(&rt, (cost.reads, cost.asks), (lexer.reads(), asks));
     Ok(())
 }
 

@@ -4,3 +4,4 @@ mod leaves;
 mod parts;
 mod rule_texts;
 mod rules;
+mod traits;

@@ -58,47 +58,37 @@ fn refusals(rt: HostRuntime) {
     }
 }
 
-/// What a text takes from the lexer, up to its end: how often it is asked, and how many looks that takes.
-fn taken(m: &Maker<'_, impl Abort>, alloc: Global, text: &str) -> (u64, u64) {
-    let mut lexer = Lexer::new(alloc, text, &Dialect::Standard, m.map_of(1, "t", text));
-    let mut asks = 1u64;
-    for item in &mut lexer {
-        leave(item);
-        asks = asks.wrapping_add(1);
-    }
-    (asks, lexer.reads())
-}
+/// How often the lexer is asked of a text, up to its end or what stands ahead where it is refused.
+static COSTS: [(&str, u64); 6] = [
+    ("foo\ndef x():\n   pass", 13),
+    // a rule, a token, the lexer's fault, and the end
+    ("1 = 2 )", 4),
+    ("1 = 2 ) # a\n# b", 4),
+    ("# a\nx = # b\n1", 5),
+    ("x = $ # a", 3),
+    ("if x: # a\n# b", 8),
+];
 
+/// What is told of a reading is what the lexer counts where it is asked so often.
 #[test]
 fn costs(rt: HostRuntime) {
     let m = &Maker::new(&rt, rt.alloc());
-    let text = "foo\ndef x():\n   pass";
-    let (module, cost) = AstModule::parse_counted(
-        rt.alloc(),
-        CodeMapId(1),
-        "t",
-        m.text(text),
-        &Dialect::Standard,
-    );
-    holds(&rt, module.is_ok());
-    equal(&rt, cost.asks, 13);
-    equal(&rt, (cost.asks, cost.reads), taken(m, rt.alloc(), text));
-}
-
-/// A text that a rule refuses is read up to its fault.
-#[test]
-fn costs_of_a_refusal(rt: HostRuntime) {
-    let m = &Maker::new(&rt, rt.alloc());
-    let (module, cost) = AstModule::parse_counted(
-        rt.alloc(),
-        CodeMapId(1),
-        "t",
-        m.text("1 = 2 )"),
-        &Dialect::Standard,
-    );
-    holds(&rt, module.is_err());
-    equal(&rt, cost.asks, 4);
-    holds(&rt, cost.reads >= 7);
+    for (text, asks) in &COSTS {
+        let (module, cost) = AstModule::parse_counted(
+            rt.alloc(),
+            CodeMapId(1),
+            "t",
+            m.text(text),
+            &Dialect::Standard,
+        );
+        leave(module);
+        let map = m.map_of(1, "t", text);
+        let mut lexer = Lexer::new(rt.alloc(), text, &Dialect::Standard, map);
+        for _ in 0..*asks {
+            leave(lexer.next());
+        }
+        equal(&rt, (cost.asks, cost.reads), (*asks, lexer.reads()));
+    }
 }
 
 /// Whether types are checked is what the text says.

@@ -1,13 +1,15 @@
 //! What leaves of trees print, and clones of literals, names and loads.
 
-use crate::check::equal;
+use crate::check::{equal, holds};
 use crate::common::span;
-use crate::maker::Maker;
+use crate::maker::{Maker, leave};
 use starlark_ast::ast::{
-    AssignIdent, AssignIdentP, AssignOp, AstLiteral, BinOp, Comma, Ident, Load, LoadArgP,
+    AssignIdent, AssignIdentP, AssignOp, AstLiteral, BinOp, Comma, Expr, ExprP, Ident, Load,
+    LoadArgP,
 };
 use starlark_ast::making::ToAst;
-use starlark_lexer::token::TokenInt;
+use starlark_lexer::token::{FStringConv, TokenInt};
+use starlark_parser::element::FStringElement;
 use std::process::Abort;
 
 fn name(m: &Maker<'_, impl Abort>, text: &str) -> AssignIdent {
@@ -40,6 +42,22 @@ fn leaves(rt: HostRuntime) {
     }
     m.prints(&BinOp::NotIn, " not in ");
     m.prints(&AssignOp::FloorDivide, " //= ");
+}
+
+/// A part of an f-string is a text, or a field with its conversion.
+#[test]
+fn elements(rt: HostRuntime) {
+    let m = &Maker::new(&rt, rt.alloc());
+    let text = FStringElement::Text(m.text("a").ast(0, 1));
+    holds(&rt, matches!(&text, FStringElement::Text(_)));
+    leave(text);
+    let node: Expr = ExprP::Literal(AstLiteral::Ellipsis);
+    let field = FStringElement::Expr(node.ast(2, 5), FStringConv::Repr);
+    holds(
+        &rt,
+        matches!(&field, FStringElement::Expr(_, FStringConv::Repr)),
+    );
+    leave(field);
 }
 
 #[test]

@@ -140,5 +140,5 @@ fn faults_of_types(rt: HostRuntime) {
     let ban = TypeExprUnpackError::DotTypeBan(m.text("a.b"));
     let want = "a type may not end in `.type`: write `a.b`";
     m.prints(&ban, want);
-    m.prints(&Rule::TypeForm(ban), want);
+    m.prints(&Rule::from(ban), want);
 }
