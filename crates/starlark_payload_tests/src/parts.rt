@@ -13,6 +13,7 @@ use starlark_payload::payload_map::IntoMapPayload;
 use starlark_payload::placed_maps::{
     ArgumentPExt, AssignTargetPExt, FStringPExt, ParameterPExt, TypeExprPExt,
 };
+use std::alloc::Global;
 use std::process::Abort;
 
 // `a`
@@ -112,21 +113,33 @@ fn parameters(rt: HostRuntime) {
     leave(x);
 }
 
+// an argument by itself
+fn argument(m: &Maker<'_, impl Abort>, alloc: Global, counter: &mut Counter, x: Argument) {
+    let x: ArgumentP<Numbered> = m.made(x.into_map_payload(alloc, counter));
+    leave(x);
+}
+
 #[test]
 fn arguments(rt: HostRuntime) {
     let alloc = rt.alloc();
     let m = &Maker::new(&rt, alloc);
     let mut counter = Counter::new();
-    let x: Argument = ArgumentP::Positional(name(m));
-    let x: ArgumentP<Numbered> = m.made(x.into_map_payload(alloc, &mut counter));
-    leave(x);
+    argument(m, alloc, &mut counter, ArgumentP::Positional(name(m)));
+    argument(
+        m,
+        alloc,
+        &mut counter,
+        ArgumentP::Named(m.text("n").ast(0, 1), name(m)),
+    );
+    argument(m, alloc, &mut counter, ArgumentP::Args(name(m)));
+    argument(m, alloc, &mut counter, ArgumentP::KwArgs(name(m)));
     let x: Argument = ArgumentP::Args(name(m));
     let x: AstArgumentP<Numbered> = m.made(ArgumentPExt::into_map_payload(
         x.ast(0, 2),
         alloc,
         &mut counter,
     ));
-    equal(&rt, counter.next, 2);
+    equal(&rt, counter.next, 5);
     leave(x);
 }
 
