@@ -5,4 +5,5 @@ mod boxes;
 mod broken;
 mod ends;
 pub mod parts;
+pub mod reading;
 pub mod trees;

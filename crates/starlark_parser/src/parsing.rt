@@ -14,10 +14,9 @@ use starlark_grammar::text_laws::held_places;
 use starlark_lexer::dialect::Dialect;
 use starlark_lexer::laws::in_order;
 use starlark_lexer::lexer::Lexer;
-use starlark_make::trees::Trees;
+use starlark_make::reading::read_tree;
 use starlark_place::codemap::{CodeMap, CodeMapId};
 use starlark_read::cost::Cost;
-use starlark_read::read::read;
 use starlark_read::told::Told;
 use std::alloc::Global;
 
@@ -50,7 +49,7 @@ pub(crate) fn module_of(
     let lexer = Lexer::new(alloc, codemap.source(), dialect, codemap.dupe()?);
     in_order();
     let mut told = Told::nothing(alloc);
-    let answer = read::<Trees>(alloc, lexer, dialect, &mut told);
+    let answer = read_tree(alloc, lexer, dialect, &mut told);
     *cost = told.cost.at_most(bytes as u32);
     held_places();
     refused_goes_on();

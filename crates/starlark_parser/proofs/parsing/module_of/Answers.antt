@@ -23,5 +23,5 @@ returns-in-Ok-answer-clause-cost c = whole_cost (capped_at (search rules) c.at_m
 pub invariant_of-result : goal.invariant_of-result
 invariant_of-result c = record {
   held = ∣ subst (λ t. StatementAt (IsCharBoundary t) (stmt_at c.in-Ok-answer.statement)) c.source.ensures.is (c.held_places.ensures.tree c.args.dialect.now c.source.result.now (stmt_at c.in-Ok-answer.statement) c.source.utf8 (c.in-Ok-answer.ensures.language c.source.result.now c.new-lexer.ensures.left)) ∣₁;
-  comments_held = subst (λ t. AreHeld t c.read-answer.new.told.comments.places.items c.read-answer.new.told.comments.joined.items) c.source.ensures.is (c.held_places.ensures.comments c.source.result.now _ _ c.source.utf8 (record { lexed = c.new-lexer.result.left; lexes = c.new-lexer.ensures.left; stand = c.in-Ok-answer.ensures.comments; follow = c.in-Ok-answer.ensures.joined }));
+  comments_held = subst (λ t. AreHeld t c.read_tree-answer.new.told.comments.places.items c.read_tree-answer.new.told.comments.joined.items) c.source.ensures.is (c.held_places.ensures.comments c.source.result.now _ _ c.source.utf8 (record { lexed = c.new-lexer.result.left; lexes = c.new-lexer.ensures.left; stand = c.in-Ok-answer.ensures.comments; follow = c.in-Ok-answer.ensures.joined }));
 }
