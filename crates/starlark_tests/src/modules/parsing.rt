@@ -81,6 +81,7 @@ fn costs(rt: HostRuntime) {
             m.text(text),
             &Dialect::Standard,
         );
+        holds(&rt, !matches!(&module, Err(EvalException::Memory)));
         leave(module);
         let map = m.map_of(1, "t", text);
         let mut lexer = Lexer::new(rt.alloc(), text, &Dialect::Standard, map);
