@@ -202,9 +202,12 @@ no_opening ts a b c q = go ts.items a b c q
     go (x ∷ xs) a b c q = one x.lexeme (λ e. a (ap Some e)) (λ e. b (ap Some e)) (λ e. c (ap Some e)) q
 
 -- one token more was there
-pub took_any : (ts us : Left) (o : Option (Token × Extent)) → ts.items ≢ [] → MatchOption o ((ts.items ≡ []) × (us ≡ ts)) (λ z. Passes ts (item z.1.begin (lexeme_of z.0) z.1.end) us) → (y : Lexeme) × Passes ts (item (start ts.items) y us.last) us
-took_any ts us None n h = absurd (n h.0)
-took_any ts us (Some z) n h = (lexeme_of z.0, as_read h)
+pub skipped : (ts us : Left) → ts.items ≢ [] → MatchOption (first_lexeme ts.items) ((ts.items ≡ []) × (us ≡ ts)) (λ w. Passes ts (item (start ts.items) w us.last) us) → (y : Lexeme) × Passes ts (item (start ts.items) y us.last) us
+skipped ts us n h = go (first_lexeme ts.items) h
+  where
+    go : (o : Option Lexeme) → MatchOption o ((ts.items ≡ []) × (us ≡ ts)) (λ w. Passes ts (item (start ts.items) w us.last) us) → (y : Lexeme) × Passes ts (item (start ts.items) y us.last) us
+    go None q = absurd (n q.0)
+    go (Some w) q = (w, q)
 
 -- members by another name, and from another beginning
 pub wanted_from : {d : Dialect} {s : State} {ts us : Left} {w : Place} {ms : tree.Members} {t : Bool} {e f : ℕ} {k : Frames} (g : ℕ) → Goes d s ts (stands (member_wanted w ms t e f) k) us → g ≡ f → Goes d s ts (stands (member_wanted w ms t e g) k) us

@@ -73,7 +73,7 @@ fn operator(tokens: &mut Tokens<'_>) -> Result<Option<AssignOp>, Error>
     let Some(op) = assign_op_ahead(tokens) else {
         return Err(Error::Unexpected);
     };
-    let _read = tokens.next()?;
+    tokens.skip()?;
     Ok(Some(op))
 }
 

@@ -127,7 +127,7 @@ fn conversion(tokens: &mut Tokens<'_>, format: &mut String, begin: Pos) -> Resul
         let node = Rule::FStringConversion;
         return Err(Error::Broken(Spanned { span, node }));
     };
-    let _letter = tokens.next()?;
+    tokens.skip()?;
     format.push_str(letters)?;
     tokens.expect(Kind::FStringExprEnd)?;
     Ok(())

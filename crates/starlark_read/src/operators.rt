@@ -81,7 +81,7 @@ fn operator(tokens: &mut Tokens<'_>, level: u8) -> Result<BinOp, Error>
     let Some(op) = operator_ahead(tokens) else {
         unreachable!();
     };
-    let _read = tokens.next()?;
+    tokens.skip()?;
     Ok(op)
 }
 

@@ -32,7 +32,7 @@ pub(crate) fn sign(tokens: &mut Tokens<'_>, level: u8) -> Result<Sign, Error>
     let Some(sign) = sign_ahead(tokens) else {
         unreachable!();
     };
-    let _read = tokens.next()?;
+    tokens.skip()?;
     Ok(sign)
 }
 

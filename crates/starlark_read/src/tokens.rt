@@ -246,8 +246,8 @@ impl<'a> Tokens<'a> {
     }
 
     /// Lets the next token go, if one is left.
-    fn skip(&mut self) -> Result<(), AllocError>
-        ensures { IfOk result (λ u. MatchOption (first_lexeme self.old.items) (self.new ≡ self.old) (λ w. Passes self.old (item (start self.old.items) w self.new.last) self.new)) }
+    pub(crate) fn skip(&mut self) -> Result<(), AllocError>
+        ensures { IfOk result (λ u. MatchOption (first_lexeme self.old.items) ((self.old.items ≡ []) × (self.new ≡ self.old)) (λ w. Passes self.old (item (start self.old.items) w self.new.last) self.new)) }
     {
         let Lookahead::Token(span, _) = &self.ahead else {
             return Ok(());

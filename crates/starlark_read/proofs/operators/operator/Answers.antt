@@ -1,6 +1,6 @@
 use Rattle.std.proofs.Common.{◌∙◌, ap, sym, rules}
 use Rattle.starlark_lexer.specs.Items.{keyword_not}
-use Rattle.starlark_read.specs.Reads.{grade_ahead}
+use Rattle.starlark_read.specs.Reads.{first_lexeme, grade_ahead}
 use Rattle.starlark_read.proofs.Exits.{◌>>◌, renamed, gives, missing, read_it, left_it}
 use Rattle.starlark_read.proofs.Suffixing.{unlike}
 use Rattle.starlark_read.proofs.Operating.{negates, no_in, operates_next, some_operator}
@@ -20,4 +20,4 @@ unreachable-requires c =
 pub returns-clause-reads : goal.returns-clause-reads
 returns-clause-reads c d q e k =
     let a = left_it _ _ keyword_not _ c.if-branch.false c.in_ok-accept.ensures in
-    gives (renamed a.0 >> operates_next _ q e k c.in-Some.op c.args.level c.in_ok-_read._read c.in_ok-_read.ensures (sym c.operator_ahead.ensures ∙ c.in-Some.is) (ap (λ ts. grade_ahead ts.items) a.0 ∙ c.requires.ahead))
+    gives (renamed a.0 >> operates_next _ q e k c.in-Some.op c.args.level (first_lexeme _) c.in_ok-skip.ensures (sym c.operator_ahead.ensures ∙ c.in-Some.is) (ap (λ ts. grade_ahead ts.items) a.0 ∙ c.requires.ahead))
