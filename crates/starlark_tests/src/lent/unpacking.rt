@@ -7,7 +7,9 @@ use starlark_parser::ast::ast::{ExprP, StmtP};
 use starlark_parser::fields::AstModuleFields;
 use starlark_parser::rules::arguments::CallArgsUnpack;
 use starlark_parser::rules::call::call_fault;
-use starlark_parser::rules::def::{DefParamIndices, DefParamKind, DefParams, DefRegularParamMode};
+use starlark_parser::rules::def::{
+    DefParamIndices, DefParamKind as Kind, DefParams, DefRegularParamMode as Mode,
+};
 use starlark_parser::rules::parameters::parameter_fault;
 use starlark_parser::rules::type_expr::{TypeExprUnpackP, type_str_literal_is_wildcard};
 use starlark_parser::rules::types::type_fault;
@@ -58,27 +60,18 @@ fn parameters(rt: HostRuntime) {
     holds(&rt, params[1].node.ty.is_some());
     holds(
         &rt,
-        matches!(
-            params[0].node.kind,
-            DefParamKind::Regular(DefRegularParamMode::PosOnly, None)
-        ),
+        matches!(params[0].node.kind, Kind::Regular(Mode::PosOnly, None)),
     );
     holds(
         &rt,
-        matches!(
-            params[1].node.kind,
-            DefParamKind::Regular(DefRegularParamMode::PosOrName, None)
-        ),
+        matches!(params[1].node.kind, Kind::Regular(Mode::PosOrName, None)),
     );
-    holds(&rt, matches!(params[2].node.kind, DefParamKind::Args));
+    holds(&rt, matches!(params[2].node.kind, Kind::Args));
     holds(
         &rt,
-        matches!(
-            params[3].node.kind,
-            DefParamKind::Regular(DefRegularParamMode::NameOnly, Some(_))
-        ),
+        matches!(params[3].node.kind, Kind::Regular(Mode::NameOnly, Some(_))),
     );
-    holds(&rt, matches!(params[4].node.kind, DefParamKind::Kwargs));
+    holds(&rt, matches!(params[4].node.kind, Kind::Kwargs));
     let indices = found.indices;
     equal(&rt, indices.pos_only(), 0..1);
     equal(&rt, indices.pos_or_named(), 1..2);
