@@ -2,7 +2,8 @@
 use Rattle.std.specs.Prelude.{List, fold, Option, Some, None}
 use Rattle.starlark_place.specs.Place.{Extent}
 use Rattle.starlark_ast.specs.Tree as tree
-use Rattle.starlark_ast.specs.View.{members}
+use Rattle.starlark_ast.specs.View.{comma_at, ident_at, members, text_at}
+use Rattle.starlark_ast.specs.declared.ast.LoadArgP.{LoadArgP}
 use Rattle.starlark_grammar.specs.declared.make.Sign.{Sign}
 use Rattle.starlark_grammar.specs.declared.make.Sign.TheVariants as sign
 
@@ -36,6 +37,11 @@ module _ {X : Type 0} where
   abbrev pub maybe_of : (X → tree.Expr) → Option X → Option tree.Expr
   maybe_of f None = None
   maybe_of f (Some x) = Some (f x)
+
+module _ {P L I A D T : Type 0} where
+  -- what a load binds, and the place of the comma behind it
+  abbrev pub symbol_at : LoadArgP P L I A D T → tree.Symbol × Option Extent
+  symbol_at x = (tree.symbol (ident_at x.local) (text_at x.their), comma_at x.comma)
 
 abbrev pub sign_of : Sign → tree.Sign
 sign_of sign.Not = tree.Not

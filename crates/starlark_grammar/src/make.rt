@@ -1,13 +1,12 @@
 //! Makers of nodes, over any trees.
 
-ghost use Rattle.std.specs.Prelude.{◌≡◌, IfOk, Option, string_bytes};
-ghost use Rattle.starlark_place.specs.Place.{Extent};
+ghost use Rattle.std.specs.Prelude.{◌≡◌, IfOk, string_bytes};
 ghost use Rattle.starlark_lexer.specs.Items.{number_of};
 ghost use Rattle.starlark_ast.specs.Tree as tree;
 ghost use Rattle.starlark_ast.specs.View.{members};
-ghost use Rattle.starlark_grammar.specs.Made.{items_of, pairs_of, clauses_of, symbols_of, sequence_of, bound_of, annotation_of, maybe_of, sign_of};
+ghost use Rattle.starlark_grammar.specs.Made.{items_of, pairs_of, clauses_of, symbol_at, symbols_of, sequence_of, bound_of, annotation_of, maybe_of, sign_of};
 
-use starlark_ast::ast::BinOp;
+use starlark_ast::ast::{AstNoPayload, BinOp, LoadArgP};
 use starlark_lexer::token::TokenInt;
 use starlark_place::pos::{Span, Spanned};
 use std::alloc::{AllocError, Global};
@@ -79,47 +78,38 @@ pub trait Make {
 
     ghost target_means: { Self.Target → tree.Expr };
 
-    /// The first clause of a comprehension, which goes over values.
-    type ForClause: Drop;
-
-    ghost for_means: { Self.ForClause → tree.Clause };
-
-    /// `for target in over`, the first clause of a comprehension.
-    fn for_clause(target: Self::Target, over: Self::Expr) -> Self::ForClause
-        ensures { for_means result ≡ tree.for_clause (target_means target) (means over) };
-
     /// A clause behind the first.
     type Clause: Drop;
 
     ghost clause_means: { Self.Clause → tree.Clause };
 
-    /// A clause with `for` behind the first one.
-    fn next_for(clause: Self::ForClause) -> Self::Clause
-        ensures { clause_means result ≡ for_means clause };
+    /// `for target in over`, a clause behind the first one.
+    fn next_for(target: Self::Target, over: Self::Expr) -> Self::Clause
+        ensures { clause_means result ≡ tree.for_clause (target_means target) (means over) };
 
     /// `if condition`, a clause of a comprehension.
     fn if_clause(condition: Self::Expr) -> Self::Clause
         ensures { clause_means result ≡ tree.if_clause (means condition) };
 
-    /// `[member first rest]`, from `[` to `]`.
+    /// `[member first rest]`, from `[` to `]`. `first` is the target of the first clause and what it goes over.
     fn list_comprehension(
         alloc: Global,
         member: Self::Expr,
-        first: Self::ForClause,
+        first: (Self::Target, Self::Expr),
         rest: Vec<Self::Clause>,
         span: Span,
     ) -> Result<Self::Expr, AllocError>
-        ensures { IfOk result (λ x. means x ≡ tree.comprehension (tree.item (means member)) (clauses_of (for_means first) clause_means rest.items) span) };
+        ensures { IfOk result (λ x. means x ≡ tree.comprehension (tree.item (means member)) (clauses_of (tree.for_clause (target_means first.0) (means first.1)) clause_means rest.items) span) };
 
-    /// `{key: value first rest}`, from `{` to `}`. `member` is the key and the value.
+    /// `{key: value first rest}`, from `{` to `}`. `member` is the key and the value, `first` as in a list.
     fn dict_comprehension(
         alloc: Global,
         member: (Self::Expr, Self::Expr),
-        first: Self::ForClause,
+        first: (Self::Target, Self::Expr),
         rest: Vec<Self::Clause>,
         span: Span,
     ) -> Result<Self::Expr, AllocError>
-        ensures { IfOk result (λ x. means x ≡ tree.comprehension (tree.pair (means member.0) (means member.1)) (clauses_of (for_means first) clause_means rest.items) span) };
+        ensures { IfOk result (λ x. means x ≡ tree.comprehension (tree.pair (means member.0) (means member.1)) (clauses_of (tree.for_clause (target_means first.0) (means first.1)) clause_means rest.items) span) };
 
     // ---- suffixes
 
@@ -320,19 +310,9 @@ pub trait Make {
     fn expression_statement(value: Self::Expr, span: Span) -> Self::Stmt
         ensures { says result ≡ tree.expression (means value) span };
 
-    /// A name that a load binds.
-    type Symbol: Drop;
-
-    /// What it binds, and the comma behind it.
-    ghost symbol_means: { Self.Symbol → tree.Symbol × Option Extent };
-
-    /// A symbol of a load: the name that it binds, the name in the other module, and where the comma behind it stands.
-    fn symbol(local: Spanned<String>, their: Spanned<String>, comma: Option<Span>) -> Self::Symbol
-        ensures { symbol_means result ≡ (tree.symbol (tree.name_at (string_bytes local.node) local.span) (tree.name_at (string_bytes their.node) their.span), comma) };
-
     /// `load(source, symbols)`, from its keyword to the `)`. `source` is the string that names the other module.
-    fn load(source: Spanned<String>, symbols: Vec<Self::Symbol>, span: Span) -> Self::Stmt
-        ensures { says result ≡ tree.load (tree.name_at (string_bytes source.node) source.span) (symbols_of symbol_means symbols.items) span };
+    fn load(source: Spanned<String>, symbols: Vec<LoadArgP<AstNoPayload>>, span: Span) -> Self::Stmt
+        ensures { says result ≡ tree.load (tree.name_at (string_bytes source.node) source.span) (symbols_of symbol_at symbols.items) span };
 
     // ---- statements with suites
 

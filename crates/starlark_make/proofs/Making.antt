@@ -1,5 +1,5 @@
 -- Nodes that are made of parts in boxes, as plain data.
-use Rattle.std.proofs.Common.{◌≡◌, refl, ap, ◌∙◌, Option, Some, None}
+use Rattle.std.proofs.Common.{◌≡◌, refl, ap, ◌∙◌, List, Option, Some, None}
 use Rattle.std.specs.Prelude.{string_bytes}
 use Rattle.std.specs.declared.alloc.Global.{Global}
 use Rattle.std.specs.declared.boxed.Box.{Box}
@@ -8,8 +8,8 @@ use Rattle.std.specs.declared.vec.Vec.{Vec}
 use Rattle.starlark_place.specs.Place.{Extent}
 use Rattle.starlark_place.specs.declared.pos.Spanned.{Spanned}
 use Rattle.starlark_ast.specs.Tree as tree
-use Rattle.starlark_ast.specs.View.{argument_at, boxed_type, expr_at, expr_view, members, parameter_at, stmt_at, stmt_view}
-use Rattle.starlark_ast.specs.Views.{clauses_of, items_of, expr_view-Call, expr_view-DictComprehension, expr_view-FString, expr_view-Lambda, view-args, view-fstring, view-lambda}
+use Rattle.starlark_ast.specs.View.{argument_at, boxed_type, clause_view, expr_at, expr_view, members, parameter_at, stmt_at, stmt_view, target_at}
+use Rattle.starlark_ast.specs.Views.{clauses_of, items_of, expr_view-Call, expr_view-DictComprehension, expr_view-FString, expr_view-Lambda, expr_view-ListComprehension, view-args, view-for_clause, view-fstring, view-lambda}
 use Rattle.starlark_ast.specs.StatementViews.{stmt_view-Def, view-def}
 use Rattle.starlark_ast.specs.declared.ast.ArgumentP.{ArgumentP}
 use Rattle.starlark_ast.specs.declared.ast.CallArgsP.{CallArgsP}
@@ -24,6 +24,7 @@ use Rattle.starlark_ast.specs.declared.ast.ParameterP.{ParameterP}
 use Rattle.starlark_ast.specs.declared.ast.StmtP.{StmtP}
 use Rattle.starlark_ast.specs.declared.ast.StmtP.TheVariants as stmt
 use Rattle.starlark_ast.specs.declared.ast.TypeExprP.{TypeExprP}
+use Rattle.starlark_grammar.specs.Made as made
 use Rattle.starlark_grammar.specs.Made.{annotation_of}
 use Rattle.starlark_make.specs.Kept.{boxed_type_at}
 
@@ -40,12 +41,25 @@ module _ {P L I A D T : Type 0} where
       ∙ ap (λ q. tree.lambda (members parameter_at q.items) (expr_at x.body.value) s) e
       ∙ ap (λ q. tree.lambda (members parameter_at ps.items) (expr_at q) s) f
 
-  pub dict_comprehension_of : (x : Box (Spanned (ExprP P L I A D T) × Spanned (ExprP P L I A D T)) Global) (c : Box (ForClauseP P L I A D T) Global) (cs : Vec (ClauseP P L I A D T) Global) (s : Extent) (y : Spanned (ExprP P L I A D T) × Spanned (ExprP P L I A D T)) (d : ForClauseP P L I A D T) (ds : Vec (ClauseP P L I A D T) Global) → x.value ≡ y → c.value ≡ d → cs ≡ ds → expr_view (expr.DictComprehension x c cs) s ≡ tree.comprehension (tree.pair (expr_at y.0) (expr_at y.1)) (clauses_of d ds.items) s
+  -- the clauses of a comprehension, of which the first is known by its parts
+  clauses_are : (c : ForClauseP P L I A D T) (cs : List (ClauseP P L I A D T)) → clauses_of c cs ≡ made.clauses_of (tree.for_clause (target_at c.var) (expr_at c.over)) clause_view cs
+  clauses_are c cs = ap (λ q. made.clauses_of q clause_view cs) (view-for_clause c)
+
+  pub list_comprehension_of : (x : Box (Spanned (ExprP P L I A D T)) Global) (c : Box (ForClauseP P L I A D T) Global) (cs : Vec (ClauseP P L I A D T) Global) (s : Extent) (y : Spanned (ExprP P L I A D T)) (d : ForClauseP P L I A D T) (ds : Vec (ClauseP P L I A D T) Global) → x.value ≡ y → c.value ≡ d → cs ≡ ds → expr_view (expr.ListComprehension x c cs) s ≡ tree.comprehension (tree.item (expr_at y)) (made.clauses_of (tree.for_clause (target_at d.var) (expr_at d.over)) clause_view ds.items) s
+  list_comprehension_of x c cs s y d ds e f g =
+      expr_view-ListComprehension x c cs s
+      ∙ ap (λ q. tree.comprehension (tree.item (expr_at q)) (clauses_of c.value cs.items) s) e
+      ∙ ap (λ q. tree.comprehension (tree.item (expr_at y)) (clauses_of q cs.items) s) f
+      ∙ ap (λ q. tree.comprehension (tree.item (expr_at y)) (clauses_of d q.items) s) g
+      ∙ ap (λ q. tree.comprehension (tree.item (expr_at y)) q s) (clauses_are d ds.items)
+
+  pub dict_comprehension_of : (x : Box (Spanned (ExprP P L I A D T) × Spanned (ExprP P L I A D T)) Global) (c : Box (ForClauseP P L I A D T) Global) (cs : Vec (ClauseP P L I A D T) Global) (s : Extent) (y : Spanned (ExprP P L I A D T) × Spanned (ExprP P L I A D T)) (d : ForClauseP P L I A D T) (ds : Vec (ClauseP P L I A D T) Global) → x.value ≡ y → c.value ≡ d → cs ≡ ds → expr_view (expr.DictComprehension x c cs) s ≡ tree.comprehension (tree.pair (expr_at y.0) (expr_at y.1)) (made.clauses_of (tree.for_clause (target_at d.var) (expr_at d.over)) clause_view ds.items) s
   dict_comprehension_of x c cs s y d ds e f g =
       expr_view-DictComprehension x c cs s
       ∙ ap (λ q. tree.comprehension (tree.pair (expr_at q.0) (expr_at q.1)) (clauses_of c.value cs.items) s) e
       ∙ ap (λ q. tree.comprehension (tree.pair (expr_at y.0) (expr_at y.1)) (clauses_of q cs.items) s) f
       ∙ ap (λ q. tree.comprehension (tree.pair (expr_at y.0) (expr_at y.1)) (clauses_of d q.items) s) g
+      ∙ ap (λ q. tree.comprehension (tree.pair (expr_at y.0) (expr_at y.1)) q s) (clauses_are d ds.items)
 
   type_as : (t : Option (Box (Spanned (TypeExprP P L I A D T)) Global)) → boxed_type t ≡ annotation_of boxed_type_at t
   type_as None = refl

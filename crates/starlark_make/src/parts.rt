@@ -2,13 +2,13 @@
 
 ghost use Rattle.std.specs.Prelude.{◌≡◌, IfOk};
 ghost use Rattle.starlark_ast.specs.Tree as tree;
-ghost use Rattle.starlark_ast.specs.View.{comma_at, expr_at, stmt_at};
+ghost use Rattle.starlark_ast.specs.View.{expr_at, stmt_at};
 ghost use Rattle.starlark_grammar.specs.Made.{sign_of};
 ghost use Rattle.starlark_make.specs.Kept.{boxed_type_at};
 
 use crate::boxes::boxed;
 use starlark_ast::ast::{
-    AssignIdentP, AstAssignIdent, AstExpr, AstStmt, AstTypeExpr, Comma, ExprP, TypeExprP,
+    AssignIdentP, AstAssignIdent, AstExpr, AstStmt, AstTypeExpr, ExprP, TypeExprP,
 };
 use starlark_grammar::make::Sign;
 use starlark_place::pos::{Span, Spanned};
@@ -64,14 +64,4 @@ pub(crate) fn assigned(name: Spanned<String>) -> AstAssignIdent
         payload: (),
     };
     Spanned { span, node }
-}
-
-/// A comma, if there is one.
-pub(crate) fn maybe_comma(comma: Option<Span>) -> Option<Spanned<Comma>>
-    ensures { comma_at result ≡ comma }
-{
-    match comma {
-        None => None,
-        Some(span) => Some(Spanned { span, node: Comma }),
-    }
 }

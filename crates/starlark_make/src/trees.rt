@@ -2,16 +2,16 @@
 
 ghost use Rattle.std.specs.Prelude.{◌≡◌, IfOk, string_bytes};
 ghost use Rattle.starlark_ast.specs.Tree as tree;
-ghost use Rattle.starlark_ast.specs.View.{argument_at, clause_view, expr_at, for_clause_view, members, parameter_at, stmt_at};
-ghost use Rattle.starlark_grammar.specs.Made.{annotation_of, bound_of, clauses_of, items_of, maybe_of, pairs_of, sequence_of, symbols_of};
-ghost use Rattle.starlark_make.specs.Kept.{boxed_type_at, symbol_at};
+ghost use Rattle.starlark_ast.specs.View.{argument_at, clause_view, expr_at, members, parameter_at, stmt_at, target_at};
+ghost use Rattle.starlark_grammar.specs.Made.{annotation_of, bound_of, clauses_of, items_of, maybe_of, pairs_of, sequence_of, symbol_at, symbols_of};
+ghost use Rattle.starlark_make.specs.Kept.{boxed_type_at};
 
 use crate::boxes::{boxed, boxed_both, boxed_first, boxed_with_three, maybe_boxed_first};
-use crate::parts::{assigned, maybe_comma, place_of, signed, statement_place_of};
+use crate::parts::{assigned, place_of, signed, statement_place_of};
 use starlark_ast::ast::{
     ArgumentP, AstArgument, AstAssignTarget, AstExpr, AstLiteral, AstNoPayload, AstParameter,
-    AstStmt, AstTypeExpr, BinOp, CallArgsP, Clause, ClauseP, DefP, ExprP, FStringP, ForClause,
-    ForClauseP, ForP, IdentP, LambdaP, LoadArgP, LoadP, ParameterP, StmtP,
+    AstStmt, AstTypeExpr, BinOp, CallArgsP, Clause, ClauseP, DefP, ExprP, FStringP, ForClauseP,
+    ForP, IdentP, LambdaP, LoadArgP, LoadP, ParameterP, StmtP,
 };
 use starlark_grammar::make::{Make, Sign};
 use starlark_lexer::token::TokenInt;
@@ -22,8 +22,8 @@ use std::alloc::{AllocError, Global};
 pub struct Trees;
 
 impl Make for Trees {
-    ghost use Rattle.starlark_ast.specs.View.{argument_at, clause_view, expr_at, for_clause_view, parameter_at, stmt_at, target_at};
-    ghost use Rattle.starlark_make.specs.Kept.{boxed_type_at, symbol_at};
+    ghost use Rattle.starlark_ast.specs.View.{argument_at, clause_view, expr_at, parameter_at, stmt_at, target_at};
+    ghost use Rattle.starlark_make.specs.Kept.{boxed_type_at};
 
     type Expr = AstExpr;
 
@@ -96,20 +96,12 @@ impl Make for Trees {
 
     ghost target_means = { target_at };
 
-    type ForClause = ForClause;
-
-    ghost for_means = { for_clause_view };
-
-    fn for_clause(target: AstAssignTarget, over: AstExpr) -> ForClause {
-        ForClauseP { var: target, over }
-    }
-
     type Clause = Clause;
 
     ghost clause_means = { clause_view };
 
-    fn next_for(clause: ForClause) -> Clause {
-        ClauseP::For(clause)
+    fn next_for(target: AstAssignTarget, over: AstExpr) -> Clause {
+        ClauseP::For(ForClauseP { var: target, over })
     }
 
     fn if_clause(condition: AstExpr) -> Clause {
@@ -119,12 +111,14 @@ impl Make for Trees {
     fn list_comprehension(
         alloc: Global,
         member: AstExpr,
-        first: ForClause,
+        first: (AstAssignTarget, AstExpr),
         rest: Vec<Clause>,
         span: Span,
     ) -> Result<AstExpr, AllocError>
-        ensures { IfOk result (λ x. expr_at x ≡ tree.comprehension (tree.item (expr_at member)) (clauses_of (for_clause_view first) clause_view rest.items) span) }
+        ensures { IfOk result (λ x. expr_at x ≡ tree.comprehension (tree.item (expr_at member)) (clauses_of (tree.for_clause (target_at first.0) (expr_at first.1)) clause_view rest.items) span) }
     {
+        let (var, over) = first;
+        let first = ForClauseP { var, over };
         let (member, first, rest) = boxed_both(alloc, member, first, rest)?;
         let node = ExprP::ListComprehension(member, first, rest);
         Ok(Spanned { span, node })
@@ -133,12 +127,14 @@ impl Make for Trees {
     fn dict_comprehension(
         alloc: Global,
         member: (AstExpr, AstExpr),
-        first: ForClause,
+        first: (AstAssignTarget, AstExpr),
         rest: Vec<Clause>,
         span: Span,
     ) -> Result<AstExpr, AllocError>
-        ensures { IfOk result (λ x. expr_at x ≡ tree.comprehension (tree.pair (expr_at member.0) (expr_at member.1)) (clauses_of (for_clause_view first) clause_view rest.items) span) }
+        ensures { IfOk result (λ x. expr_at x ≡ tree.comprehension (tree.pair (expr_at member.0) (expr_at member.1)) (clauses_of (tree.for_clause (target_at first.0) (expr_at first.1)) clause_view rest.items) span) }
     {
+        let (var, over) = first;
+        let first = ForClauseP { var, over };
         let (member, first, rest) = boxed_both(alloc, member, first, rest)?;
         let node = ExprP::DictComprehension(member, first, rest);
         Ok(Spanned { span, node })
@@ -378,22 +374,6 @@ impl Make for Trees {
     fn expression_statement(value: AstExpr, span: Span) -> AstStmt {
         let node = StmtP::Expression(value);
         Spanned { span, node }
-    }
-
-    type Symbol = LoadArgP<AstNoPayload>;
-
-    ghost symbol_means = { symbol_at };
-
-    fn symbol(
-        local: Spanned<String>,
-        their: Spanned<String>,
-        comma: Option<Span>,
-    ) -> LoadArgP<AstNoPayload> {
-        LoadArgP {
-            local: assigned(local),
-            their,
-            comma: maybe_comma(comma),
-        }
     }
 
     fn load(source: Spanned<String>, symbols: Vec<LoadArgP<AstNoPayload>>, span: Span) -> AstStmt

@@ -24,17 +24,17 @@ use starlark_grammar::build::Build;
 pub(crate) fn clauses<B: Build>(
     tokens: &mut Tokens<'_>,
     closing: Kind,
-) -> Result<(B::ForClause, Vec<B::Clause>), Error>
+) -> Result<((B::Target, B::Expr), Vec<B::Clause>), Error>
     requires { is_plain closing ≡ true }
-    ensures reads { (d : Dialect) (p : Bracket) (b : ℕ) (m : tree.Member) (k : Frames) → token_of closing ≡ closing_bracket p → Comes d (stands (member_wanted (targets_in p b m tree.no_clauses) tree.none false 0 0) k) (λ x. has (tree.comprehension m (clauses_of (B.for_means x.0) B.clause_means x.1.items) (stretch b tokens.new.last)) tokens.new.last k) tokens.old result tokens.new }
+    ensures reads { (d : Dialect) (p : Bracket) (b : ℕ) (m : tree.Member) (k : Frames) → token_of closing ≡ closing_bracket p → Comes d (stands (member_wanted (targets_in p b m tree.no_clauses) tree.none false 0 0) k) (λ x. has (tree.comprehension m (clauses_of (tree.for_clause (B.target_means x.0.0) (B.means x.0.1)) B.clause_means x.1.items) (stretch b tokens.new.last)) tokens.new.last k) tokens.old result tokens.new }
     ensures shorter { OnOk result (length tokens.new.items < length tokens.old.items) }
 {
     let first = for_clause::<B>(tokens)?;
     let mut rest = Vec::new(tokens.alloc());
     loop {
         if tokens.accept(Kind::For)? {
-            let next = for_clause::<B>(tokens)?;
-            rest.push(B::next_for(next))?;
+            let (target, over) = for_clause::<B>(tokens)?;
+            rest.push(B::next_for(target, over))?;
         } else if tokens.accept(Kind::If)? {
             let condition = expression::<B>(tokens, OR)?;
             rest.push(B::if_clause(condition))?;
@@ -45,10 +45,10 @@ pub(crate) fn clauses<B: Build>(
     }
 }
 
-/// A clause behind its `for`.
+/// A clause behind its `for`: its target, and what it goes over.
 #[cycle(expression)]
-fn for_clause<B: Build>(tokens: &mut Tokens<'_>) -> Result<B::ForClause, Error>
-    ensures reads { (d : Dialect) (p : Bracket) (b : ℕ) (m : tree.Member) (cs : tree.Clauses) (k : Frames) → Comes d (stands (member_wanted (targets_in p b m cs) tree.none false 0 0) k) (λ x. stands (clauses_read p b m (tree.and_clause cs (B.for_means x))) k) tokens.old result tokens.new }
+fn for_clause<B: Build>(tokens: &mut Tokens<'_>) -> Result<(B::Target, B::Expr), Error>
+    ensures reads { (d : Dialect) (p : Bracket) (b : ℕ) (m : tree.Member) (cs : tree.Clauses) (k : Frames) → Comes d (stands (member_wanted (targets_in p b m cs) tree.none false 0 0) k) (λ x. stands (clauses_read p b m (tree.and_clause cs (tree.for_clause (B.target_means x.0) (B.means x.1)))) k) tokens.old result tokens.new }
     ensures shorter { OnOk result (length tokens.new.items < length tokens.old.items) }
 {
     let targets = listed::<B>(tokens, BIT_OR)?;
@@ -58,5 +58,5 @@ fn for_clause<B: Build>(tokens: &mut Tokens<'_>) -> Result<B::ForClause, Error>
         return Err(Error::Broken(fault));
     }
     let target = B::target(tokens.alloc(), targets)?;
-    Ok(B::for_clause(target, over))
+    Ok((target, over))
 }

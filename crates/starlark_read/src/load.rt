@@ -3,9 +3,10 @@
 ghost use Rattle.std.specs.Prelude.{ℕ, ◌≡◌, ◌≢◌, ◌<◌, ◌≤◌, IfOk, MatchOption, None, OnOk, Some, length, string_bytes};
 ghost use Rattle.starlark_lexer.specs.Items.{closing_round, item, string};
 ghost use Rattle.starlark_lexer.specs.declared.dialect.Dialect.{Dialect};
+ghost use Rattle.starlark_ast.specs.View.{comma_at};
 ghost use Rattle.starlark_ast.specs.Tree.{Name, Symbols, load, name_at, no_symbols, symbol};
 ghost use Rattle.starlark_grammar.specs.Frames.{Line, behind_small, load_behind, load_opens, load_symbol};
-ghost use Rattle.starlark_grammar.specs.Made.{symbols_of};
+ghost use Rattle.starlark_grammar.specs.Made.{symbol_at, symbols_of};
 ghost use Rattle.starlark_grammar.specs.Nodes.{start};
 ghost use Rattle.starlark_read.specs.Reads.{Comes, Passes, first_lexeme, string_ahead};
 ghost use Rattle.starlark_grammar.specs.Spans.{stretch};
@@ -14,8 +15,9 @@ use crate::error::Error;
 use crate::kind::Kind;
 use crate::names::name;
 use crate::tokens::Tokens;
+use starlark_ast::ast::{AssignIdentP, AstNoPayload, Comma, LoadArgP};
 use starlark_grammar::build::Build;
-use starlark_place::pos::{Pos, Spanned};
+use starlark_place::pos::{Pos, Span, Spanned};
 use starlark_rulebook::rule::Rule;
 use std::alloc::AllocError;
 
@@ -33,13 +35,13 @@ pub(crate) fn load<B: Build>(tokens: &mut Tokens<'_>, begin: Pos) -> Result<B::S
         let none = Vec::new(tokens.alloc());
         return Ok(B::load(source, none, tokens.since(begin)));
     }
-    let found = symbols::<B>(tokens)?;
+    let found = symbols(tokens)?;
     Ok(B::load(source, found, tokens.since(begin)))
 }
 
 /// The symbols of a load with the commas behind them, and its closing parenthesis.
-fn symbols<B: Build>(tokens: &mut Tokens<'_>) -> Result<Vec<B::Symbol>, Error>
-    ensures reads { (d : Dialect) (p : ℕ) (m : Name) (k : Line) → Comes d (load_symbol p m no_symbols k) (λ xs. behind_small (load m (symbols_of B.symbol_means xs.items) (stretch p tokens.new.last)) k) tokens.old result tokens.new }
+fn symbols(tokens: &mut Tokens<'_>) -> Result<Vec<LoadArgP<AstNoPayload>>, Error>
+    ensures reads { (d : Dialect) (p : ℕ) (m : Name) (k : Line) → Comes d (load_symbol p m no_symbols k) (λ xs. behind_small (load m (symbols_of symbol_at xs.items) (stretch p tokens.new.last)) k) tokens.old result tokens.new }
     ensures shorter { OnOk result (length tokens.new.items < length tokens.old.items) }
 {
     let mut found = Vec::new(tokens.alloc());
@@ -51,11 +53,41 @@ fn symbols<B: Build>(tokens: &mut Tokens<'_>) -> Result<Vec<B::Symbol>, Error>
         let begin = tokens.begin();
         if !tokens.accept(Kind::Comma)? {
             tokens.expect(Kind::ClosingRound)?;
-            found.push(B::symbol(local, their, None))?;
+            found.push(symbol(local, their, None))?;
             return Ok(found);
         }
         let comma = tokens.since(begin);
-        found.push(B::symbol(local, their, Some(comma)))?;
+        found.push(symbol(local, their, Some(comma)))?;
+    }
+}
+
+/// A symbol of a load: the name that it binds, the name in the other module, and where the comma behind it stands.
+fn symbol(
+    local: Spanned<String>,
+    their: Spanned<String>,
+    comma: Option<Span>,
+) -> LoadArgP<AstNoPayload>
+    ensures { symbol_at result ≡ (symbol (name_at (string_bytes local.node) local.span) (name_at (string_bytes their.node) their.span), comma) }
+{
+    let Spanned { span, node } = local;
+    let node = AssignIdentP {
+        ident: node,
+        payload: (),
+    };
+    LoadArgP {
+        local: Spanned { span, node },
+        their,
+        comma: maybe_comma(comma),
+    }
+}
+
+/// A comma, if there is one.
+fn maybe_comma(comma: Option<Span>) -> Option<Spanned<Comma>>
+    ensures { comma_at result ≡ comma }
+{
+    match comma {
+        None => None,
+        Some(span) => Some(Spanned { span, node: Comma }),
     }
 }
 

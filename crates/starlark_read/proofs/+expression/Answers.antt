@@ -700,12 +700,12 @@ comprehension::clauses-returns-in_err-first-clause-reads g met c d p b m k q = e
 
 pub comprehension::clauses-loop-rest-init : goal.comprehension::clauses-loop-rest-init
 comprehension::clauses-loop-rest-init g met c = record {
-  reads = λ d p b m k. clauses_as _ ((c.in_ok-first.ensures.reads d p b m tree.no_clauses k).comes _ refl) (ap (clauses_of (g.B.Make.for_means c.in_ok-first.first) g.B.Make.clause_means) c.new-rest.ensures.items);
+  reads = λ d p b m k. clauses_as _ ((c.in_ok-first.ensures.reads d p b m tree.no_clauses k).comes _ refl) (ap (clauses_of (tree.for_clause (g.B.Make.target_means c.in_ok-first.first.0) (g.B.Make.means c.in_ok-first.first.1)) g.B.Make.clause_means) c.new-rest.ensures.items);
   shorter = c.in_ok-first.ensures.shorter;
 }
 
-pub comprehension::clauses-returns-in_err-next-clause-reads : goal.comprehension::clauses-returns-in_err-next-clause-reads
-comprehension::clauses-returns-in_err-next-clause-reads g met c d p b m k q = exits (search rules) (c.loop-rest.invariant.reads d p b m k >> goes (read_it _ _ keyword_for _ c.if-branch.true c.in_ok-accept.ensures) refl refl) (c.in_err-next.ensures.reads d p b m _ k)
+pub comprehension::clauses-returns-in_err-target-clause-reads : goal.comprehension::clauses-returns-in_err-target-clause-reads
+comprehension::clauses-returns-in_err-target-clause-reads g met c d p b m k q = exits (search rules) (c.loop-rest.invariant.reads d p b m k >> goes (read_it _ _ keyword_for _ c.if-branch.true c.in_ok-accept.ensures) refl refl) (c.in_err-target.ensures.reads d p b m _ k)
 
 pub comprehension::clauses-returns-in_err-condition-clause-reads : goal.comprehension::clauses-returns-in_err-condition-clause-reads
 comprehension::clauses-returns-in_err-condition-clause-reads g met c d p b m k q =
@@ -727,17 +727,17 @@ comprehension::clauses-returns-else-branch-2-clause-reads g met c d p b m k q =
 pub comprehension::clauses-loop-rest-preserved-in-Continue-branch-4 : goal.comprehension::clauses-loop-rest-preserved-in-Continue-branch-4
 comprehension::clauses-loop-rest-preserved-in-Continue-branch-4 g met c =
     let p = read_it _ _ keyword_for _ c.if-branch.true c.in_ok-accept.ensures in
-    let one : clauses_of (g.B.Make.for_means c.in_ok-first.first) g.B.Make.clause_means c.push.new.self.items ≡ tree.and_clause (clauses_of (g.B.Make.for_means c.in_ok-first.first) g.B.Make.clause_means c.loop-rest.rest.items) (g.B.Make.for_means c.in_ok-next.next) = ap (clauses_of (g.B.Make.for_means c.in_ok-first.first) g.B.Make.clause_means) c.in_ok-push.ensures.items ∙ clause_more (g.B.Make.for_means c.in_ok-first.first) g.B.Make.clause_means c.loop-rest.rest.items c.next_for.result ∙ ap (tree.and_clause (clauses_of (g.B.Make.for_means c.in_ok-first.first) g.B.Make.clause_means c.loop-rest.rest.items)) c.next_for.ensures in
+    let one : clauses_of (tree.for_clause (g.B.Make.target_means c.in_ok-first.first.0) (g.B.Make.means c.in_ok-first.first.1)) g.B.Make.clause_means c.push.new.self.items ≡ tree.and_clause (clauses_of (tree.for_clause (g.B.Make.target_means c.in_ok-first.first.0) (g.B.Make.means c.in_ok-first.first.1)) g.B.Make.clause_means c.loop-rest.rest.items) (tree.for_clause (g.B.Make.target_means c.in_ok-target.target) (g.B.Make.means c.in_ok-target.over)) = ap (clauses_of (tree.for_clause (g.B.Make.target_means c.in_ok-first.first.0) (g.B.Make.means c.in_ok-first.first.1)) g.B.Make.clause_means) c.in_ok-push.ensures.items ∙ clause_more (tree.for_clause (g.B.Make.target_means c.in_ok-first.first.0) (g.B.Make.means c.in_ok-first.first.1)) g.B.Make.clause_means c.loop-rest.rest.items c.next_for.result ∙ ap (tree.and_clause (clauses_of (tree.for_clause (g.B.Make.target_means c.in_ok-first.first.0) (g.B.Make.means c.in_ok-first.first.1)) g.B.Make.clause_means c.loop-rest.rest.items)) c.next_for.ensures in
     record {
-      reads = λ d p' b m k. clauses_as _ (c.loop-rest.invariant.reads d p' b m k >> goes p refl refl >> (c.in_ok-next.ensures.reads d p' b m _ k).comes _ refl) one;
-      shorter = omega (arith, c.loop-rest.invariant.shorter, ap length p.items, c.in_ok-next.ensures.shorter);
+      reads = λ d p' b m k. clauses_as _ (c.loop-rest.invariant.reads d p' b m k >> goes p refl refl >> (c.in_ok-target.ensures.reads d p' b m _ k).comes _ refl) one;
+      shorter = omega (arith, c.loop-rest.invariant.shorter, ap length p.items, c.in_ok-target.ensures.shorter);
     }
 
 pub comprehension::clauses-loop-rest-preserved : goal.comprehension::clauses-loop-rest-preserved
 comprehension::clauses-loop-rest-preserved g met c =
     let a = left_it _ _ keyword_for _ c.if-branch.false c.in_ok-accept.ensures in
     let p = read_it _ _ keyword_if _ c.if-branch-2.true c.in_ok-accept-2.ensures in
-    let one : clauses_of (g.B.Make.for_means c.in_ok-first.first) g.B.Make.clause_means c.push-then-branch-2.new.self.items ≡ tree.and_clause (clauses_of (g.B.Make.for_means c.in_ok-first.first) g.B.Make.clause_means c.loop-rest.rest.items) (tree.if_clause (g.B.Make.means c.in_ok-condition.condition)) = ap (clauses_of (g.B.Make.for_means c.in_ok-first.first) g.B.Make.clause_means) c.in_ok-push-2.ensures.items ∙ clause_more (g.B.Make.for_means c.in_ok-first.first) g.B.Make.clause_means c.loop-rest.rest.items c.if_clause.result ∙ ap (tree.and_clause (clauses_of (g.B.Make.for_means c.in_ok-first.first) g.B.Make.clause_means c.loop-rest.rest.items)) c.if_clause.ensures in
+    let one : clauses_of (tree.for_clause (g.B.Make.target_means c.in_ok-first.first.0) (g.B.Make.means c.in_ok-first.first.1)) g.B.Make.clause_means c.push-then-branch-2.new.self.items ≡ tree.and_clause (clauses_of (tree.for_clause (g.B.Make.target_means c.in_ok-first.first.0) (g.B.Make.means c.in_ok-first.first.1)) g.B.Make.clause_means c.loop-rest.rest.items) (tree.if_clause (g.B.Make.means c.in_ok-condition.condition)) = ap (clauses_of (tree.for_clause (g.B.Make.target_means c.in_ok-first.first.0) (g.B.Make.means c.in_ok-first.first.1)) g.B.Make.clause_means) c.in_ok-push-2.ensures.items ∙ clause_more (tree.for_clause (g.B.Make.target_means c.in_ok-first.first.0) (g.B.Make.means c.in_ok-first.first.1)) g.B.Make.clause_means c.loop-rest.rest.items c.if_clause.result ∙ ap (tree.and_clause (clauses_of (tree.for_clause (g.B.Make.target_means c.in_ok-first.first.0) (g.B.Make.means c.in_ok-first.first.1)) g.B.Make.clause_means c.loop-rest.rest.items)) c.if_clause.ensures in
     record {
       reads = λ d p' b m k. clauses_as _ (c.loop-rest.invariant.reads d p' b m k >> renamed a.0 >> goes p refl refl >> (c.in_ok-condition.ensures.reads d _).comes _ refl >> filter_ends _ _ _ _ _ _ _ _) one;
       shorter = omega (arith, c.loop-rest.invariant.shorter, ap (λ z. length z.items) a.0, ap length p.items, c.in_ok-condition.ensures.shorter);
@@ -756,7 +756,7 @@ pub comprehension::for_clause-returns-in-Some-clause-reads : goal.comprehension:
 comprehension::for_clause-returns-in-Some-clause-reads g met c d p b m cs k = halts (answers ((c.in_ok-targets.ensures.reads d (in_clause p b m cs k) refl).comes _ refl >> in_follows p b m cs _ _ _ k _ _ c.in_ok-expect.ensures.read >> (c.in_ok-over.ensures.reads d _).comes _ refl) (over_broken p b m cs _ _ _ k _ _ _ c.in-Some.is c.target_fault.ensures))
 
 pub comprehension::for_clause-returns-clause-reads : goal.comprehension::for_clause-returns-clause-reads
-comprehension::for_clause-returns-clause-reads g met c d p b m cs k = gives (state_is ((c.in_ok-targets.ensures.reads d (in_clause p b m cs k) refl).comes _ refl >> in_follows p b m cs _ _ _ k _ _ c.in_ok-expect.ensures.read >> (c.in_ok-over.ensures.reads d _).comes _ refl >> over_ends p b m cs _ _ _ k _ (right_target (g.B.Make.means c.in_ok-targets.targets) _ c.in_default.is c.target_fault.ensures)) (ap (λ z. stands (clauses_read p b m (tree.and_clause cs z)) k) (sym (c.for_clause.ensures ∙ ap₂ tree.for_clause c.in_ok-target.ensures refl))))
+comprehension::for_clause-returns-clause-reads g met c d p b m cs k = gives (state_is ((c.in_ok-targets.ensures.reads d (in_clause p b m cs k) refl).comes _ refl >> in_follows p b m cs _ _ _ k _ _ c.in_ok-expect.ensures.read >> (c.in_ok-over.ensures.reads d _).comes _ refl >> over_ends p b m cs _ _ _ k _ (right_target (g.B.Make.means c.in_ok-targets.targets) _ c.in_default.is c.target_fault.ensures)) (ap (λ z. stands (clauses_read p b m (tree.and_clause cs z)) k) (sym (ap₂ tree.for_clause c.in_ok-target.ensures refl))))
 
 pub listed::listed-returns-in_err-first-clause-reads : goal.listed::listed-returns-in_err-first-clause-reads
 listed::listed-returns-in_err-first-clause-reads g met c d k h = exits (search rules) (list_begins k _ _ h) (c.in_err-first.ensures.reads d _)
@@ -765,7 +765,7 @@ pub listed::listed-returns-clause-reads : goal.listed::listed-returns-clause-rea
 listed::listed-returns-clause-reads g met c d k h = behind_it (list_begins k _ _ h >> (c.in_ok-first.ensures.reads d _).comes _ refl) (listed_from k g.B.Make.means _ _ _ _ c.begin-begin.ensures (c.listed_behind.ensures.reads d k h))
 
 pub listed::listed_behind-expression-requires : goal.listed::listed_behind-expression-requires
-listed::listed_behind-expression-requires g met c = λ κs x. (omega (arith, c.loop-begin.invariant.shorter), (x.0, (x.1.0, (x.1.1.0, (x.1.1.1.0, (x.1.1.1.1.0, (x.1.1.1.1.1.0, (x.1.1.1.1.1.1.0, (x.1.1.1.1.1.1.1.0, (x.1.1.1.1.1.1.1.1.0, (x.1.1.1.1.1.1.1.1.1, c.requires)))))))))))
+listed::listed_behind-expression-requires g met c = λ κs x. (omega (arith, c.loop-begin.invariant.shorter), (x.0, (x.1.0, (x.1.1.0, (x.1.1.1.0, (x.1.1.1.1.0, (x.1.1.1.1.1.0, (x.1.1.1.1.1.1.0, (x.1.1.1.1.1.1.1, c.requires)))))))))
 
 pub listed::listed_behind-loop-begin-init : goal.listed::listed_behind-loop-begin-init
 listed::listed_behind-loop-begin-init g met c =

@@ -2,7 +2,7 @@ use Rattle.std.proofs.Common.{refl, ap, sym, ◌∙◌, rules, string_bytes}
 use Rattle.starlark_lexer.specs.Items.{comma}
 use Rattle.starlark_ast.specs.Tree.{load, name_at, no_symbols}
 use Rattle.starlark_grammar.specs.Frames.{behind_small}
-use Rattle.starlark_grammar.specs.Made.{symbols_of}
+use Rattle.starlark_grammar.specs.Made.{symbol_at, symbols_of}
 use Rattle.starlark_read.proofs.Exits.{◌>>◌, exits, gives, goes, left_it, missing, read_it, refuses, renamed, state_is, stays_there, sticks}
 use Rattle.starlark_read.proofs.Loading.{module_read, no_load_end, no_load_opening, no_module}
 use Rattle.starlark_read.proofs.Suffixing.{none_of, some_of, unlike}
@@ -27,10 +27,9 @@ pub returns-then-not-branch-clause-reads : goal.returns-then-not-branch-clause-r
 returns-then-not-branch-clause-reads g c d k =
     let p = c.args.begin in
     let s = c.in-Some.source in
-    let f = g.B.Make.symbol_means in
     let m = some_of _ _ _ _ c.in-Some.is c.in_ok-source.ensures in
     let b = left_it _ _ comma _ c.if-not-branch.true c.in_ok-accept.ensures in
-    gives (state_is (goes c.in_ok-expect.ensures.read refl refl >> module_read p _ _ k _ _ m >> renamed b.0 >> goes c.in_ok-expect-2.ensures.read refl refl) (ap (λ z. behind_small z k) (sym (c.load.ensures ∙ ap (λ xs. load (name_at (string_bytes s.node) s.span) (symbols_of f xs) c.since.result) c.new-none.ensures.items ∙ ap (load (name_at (string_bytes s.node) s.span) no_symbols) c.since.ensures))))
+    gives (state_is (goes c.in_ok-expect.ensures.read refl refl >> module_read p _ _ k _ _ m >> renamed b.0 >> goes c.in_ok-expect-2.ensures.read refl refl) (ap (λ z. behind_small z k) (sym (c.load.ensures ∙ ap (λ xs. load (name_at (string_bytes s.node) s.span) (symbols_of symbol_at xs) c.since.result) c.new-none.ensures.items ∙ ap (load (name_at (string_bytes s.node) s.span) no_symbols) c.since.ensures))))
 
 pub returns-in_err-found-clause-reads : goal.returns-in_err-found-clause-reads
 returns-in_err-found-clause-reads g c d k =
@@ -44,7 +43,6 @@ pub returns-clause-reads : goal.returns-clause-reads
 returns-clause-reads g c d k =
     let p = c.args.begin in
     let s = c.in-Some.source in
-    let f = g.B.Make.symbol_means in
     let m = some_of _ _ _ _ c.in-Some.is c.in_ok-source.ensures in
     let q = read_it _ _ comma _ c.if-not-branch.false c.in_ok-accept.ensures in
-    gives (state_is (goes c.in_ok-expect.ensures.read refl refl >> module_read p _ _ k _ _ m >> goes q refl refl >> (c.in_ok-found.ensures.reads d p (name_at (string_bytes s.node) s.span) k).comes _ refl) (ap (λ z. behind_small z k) (sym (c.load-2.ensures ∙ ap (load (name_at (string_bytes s.node) s.span) (symbols_of f c.in_ok-found.found.items)) c.since-2.ensures))))
+    gives (state_is (goes c.in_ok-expect.ensures.read refl refl >> module_read p _ _ k _ _ m >> goes q refl refl >> (c.in_ok-found.ensures.reads d p (name_at (string_bytes s.node) s.span) k).comes _ refl) (ap (λ z. behind_small z k) (sym (c.load-2.ensures ∙ ap (load (name_at (string_bytes s.node) s.span) (symbols_of symbol_at c.in_ok-found.found.items)) c.since-2.ensures))))

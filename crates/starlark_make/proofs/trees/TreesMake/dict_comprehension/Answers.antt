@@ -4,4 +4,4 @@ use Rattle.starlark_make.proofs.trees.TreesMake.dict_comprehension.Goals as goal
 pub returns : goal.returns
 returns c =
     let h = c.in_ok-member.ensures in
-    dict_comprehension_of c.in_ok-member.member c.in_ok-member.first c.in_ok-member.rest c.args.span c.args.member c.args.first c.args.rest h.0 h.1 h.2
+    dict_comprehension_of c.in_ok-member.member c.in_ok-member.first c.in_ok-member.rest c.args.span c.args.member _ c.args.rest h.0 h.1 h.2
