@@ -21,4 +21,9 @@ fn tokens(rt: HostRuntime) {
     assert!(rt; starlark_c_token_count(rt.alloc(), text, &mut count));
     assert!(rt; starlark_c_token_bytes(rt.alloc(), text, &mut bytes));
     assert_eq!(rt; (count, bytes), (8, 7));
+    // what stands before a fault
+    let text = "a $".as_bytes();
+    assert!(rt; starlark_c_token_count(rt.alloc(), text, &mut count));
+    assert!(rt; starlark_c_token_bytes(rt.alloc(), text, &mut bytes));
+    assert_eq!(rt; (count, bytes), (1, 1));
 }

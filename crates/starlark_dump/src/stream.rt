@@ -1,6 +1,7 @@
 //! Runs: a stream of queries, or one text.
 
-ghost use Rattle.std.specs.Prelude.{◌≡◌, IfOk};
+ghost use Rattle.std.specs.Io.KnownBytes.{Appends};
+ghost use Rattle.std.specs.Prelude.{◌≡◌, IfOk, OnOk, codes};
 
 use crate::answer::{Refused, answer};
 use crate::fault::{End, RunFault};
@@ -78,7 +79,8 @@ fn write_answer<W: Write>(
 
 /// Answers `bad`, behind which nothing is read.
 pub(crate) fn run_bad<W: Write>(writer: &mut W) -> Result<End, RunFault>
-    ensures { IfOk result (λ e. e ≡ End.Bad) }
+    ensures end { IfOk result (λ e. e ≡ End.Bad) }
+    ensures told { OnOk result (Appends (W.contents writer.old) (W.contents writer.new) (codes "bad\n")) }
 {
     writer.write_all(b"bad\n").map_err(RunFault::of_write)?;
     Ok(End::Bad)

@@ -7,12 +7,13 @@ use starlark_place::pos::{Pos, Span, Spanned};
 use starlark_place::resolved::{ResolvedPos, ResolvedSpan};
 
 /// Lines and columns of a span's begin and end, all from 0, and what it prints.
-static PRINTED: [(usize, usize, usize, usize, &str); 6] = [
+static PRINTED: [(usize, usize, usize, usize, &str); 7] = [
     (0, 4, 0, 4, "1:5"),
     (0, 8, 0, 9, "1:9-10"),
     (1, 0, 2, 7, "2:1-3:8"),
     (0, 9, 0, 8, "1:10-9"),
     (2, 7, 1, 0, "3:8-2:1"),
+    (usize::MAX, 0, usize::MAX, 0, "18446744073709551616:1"),
     (
         usize::MAX,
         usize::MAX,
@@ -63,6 +64,11 @@ fn ends(rt: HostRuntime) {
         place.contains(Pos::new(2)) && place.contains(Pos::new(4)),
     );
     holds(&rt, !place.contains(Pos::new(5)));
+    let last = span(u32::MAX, u32::MAX);
+    holds(
+        &rt,
+        last.contains(Pos::new(u32::MAX)) && !last.intersects(span(0, 0)),
+    );
     let resolved = ResolvedSpan {
         begin: ResolvedPos { line: 0, column: 3 },
         end: ResolvedPos { line: 2, column: 1 },

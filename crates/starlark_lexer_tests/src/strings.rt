@@ -17,6 +17,11 @@ fn indices(rt: HostRuntime) {
         fast_string::convert_indices(5, Some(3), Some(1)),
         (3, 1),
     );
+    equal(
+        &rt,
+        fast_string::convert_indices(2147483647, Some(i32::MIN), Some(i32::MAX)),
+        (0, 2147483647),
+    );
     equal(&rt, fast_string::convert_index(10, -20), 0);
     let cut = fast_string::convert_str_indices("héllo", Some(1), Some(-1));
     holds(&rt, cut.is_some());
@@ -26,7 +31,15 @@ fn indices(rt: HostRuntime) {
     }
     holds(
         &rt,
-        fast_string::convert_str_indices("abc", Some(4), None).is_none(),
+        fast_string::convert_str_indices("abc", Some(4), None).is_none()
+            && fast_string::convert_str_indices("abc", Some(2), Some(1)).is_none(),
+    );
+    holds(
+        &rt,
+        matches!(
+            fast_string::convert_str_indices("", None, None),
+            Some(cut) if cut.start == CharIndex(0) && cut.haystack.is_empty()
+        ),
     );
 }
 

@@ -40,6 +40,8 @@ a b ab 1 2 257 65537 0x80000000 0x80000001 0x800000010 0b10000000000000000000000
 f\"a{x!r}b\" f'c' f'''d''' f\"\"\"e\"\"\" f'cd' f'ab' f'1.0' # c
   x # d
 ab 257 0x80000001 1.05 \"ab\" b\"ab\" f'cd' # cd
+abcdefghij \"abcdefghij\" b\"abcdefghij\" f'abcdefghij' 1234567890 \"1234567890\" 12345678901 \"12345678901\"
+#abcdefghij
 #
 #ab
 #1.0

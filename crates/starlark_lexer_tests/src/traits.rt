@@ -3,8 +3,9 @@
 use starlark_lexer::dialect::{Dialect, DialectTypes};
 use starlark_lexer::format::{EscapeCurlyBrace, FormatConv, FormatError, FormatToken};
 use starlark_lexer::token::{FStringConv, FStringQuote, LexemeError, Token, TokenInt};
-use starlark_place::codemap::CodeMapId;
+use starlark_place::codemap::{CodeMap, CodeMapId};
 use starlark_place::fast_string::{CharIndex, StrIndices};
+use starlark_place::file_span::FileSpan;
 use starlark_place::pos::{Pos, Span, Spanned};
 use starlark_place::resolved::{ResolvedFileLine, ResolvedFileSpan, ResolvedPos, ResolvedSpan};
 use std::error::Error;
@@ -19,6 +20,8 @@ fn copied<T: Copy + Eq>() {}
 fn compared<T: Eq>() {}
 
 fn keyed<T: Eq + Hash>() {}
+
+fn sorted<T: Ord + Hash>() {}
 
 fn told<T: Error>() {}
 
@@ -44,5 +47,7 @@ fn traits() {
     compared::<ResolvedFileSpan>();
     compared::<ResolvedFileLine>();
     keyed::<Spanned<u8>>();
+    keyed::<CodeMap>();
+    sorted::<FileSpan>();
     told::<FormatError>();
 }
