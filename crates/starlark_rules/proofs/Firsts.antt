@@ -22,6 +22,10 @@ pub first_of_both : (xs ys : List Finding) → first_finding (xs ++ ys) ≡ firs
 first_of_both [] ys = refl
 first_of_both (x ∷ xs) ys = refl
 
+-- what is found in both, as it is found in each
+pub first_in : (xs ys : List Finding) (o p q : Option Finding) → o ≡ first_finding xs → p ≡ first_finding ys → q ≡ first_of o p → q ≡ first_finding (xs ++ ys)
+first_in xs ys o p q e f is = is ∙ ap (λ r. first_of r p) e ∙ ap (λ r. first_of (first_finding xs) r) f ∙ sym (first_of_both xs ys)
+
 -- what is found stays the first
 pub stays : (xs ys : List Finding) (a : Finding) → Some a ≡ first_finding xs → Some a ≡ first_finding (xs ++ ys)
 stays xs ys a e = ap (λ o. first_of o (first_finding ys)) e ∙ sym (first_of_both xs ys)

@@ -10,7 +10,7 @@ use Rattle.starlark_ast.specs.View.{members}
 use Rattle.starlark_rulebook.specs.Rules.{DotTypeBan, InvalidType}
 use Rattle.starlark_rulebook.specs.Parameters.{member_count}
 use Rattle.starlark_rulebook.specs.Types.{Role, alone, argument, list_form, union_form, Misfit, misfit, Form, Forms, Path, path, no_forms, add_form, from, from_both, index2_of, index2_form, form_of, forms_of, root, attributes, dotted, dotted_text}
-use Rattle.starlark_rules.specs.Misfits.{Comes, Stops, list_members, path_text, stop_for}
+use Rattle.starlark_rules.specs.Misfits.{Comes, Stops, path_text, stop_for}
 use Rattle.starlark_rulebook.specs.View.{type_fault_view}
 use Rattle.starlark_rules.specs.declared.types.Stop.{Stop}
 use Rattle.starlark_rules.specs.declared.types.Stop.TheVariants.{NoType, Memory}
@@ -151,21 +151,6 @@ taken x n m u s v ns e other so =
     ∙ ap (λ q. Ok (path (t.name_at n u) q)) (sym so)
 
 -- ---- an argument, a list
-
--- only lists are other as arguments
-pub same_alone : (x : Expr) → None ≡ list_members x → form_of alone x ≡ form_of argument x
-same_alone (t.list ms s) e = absurd (cc)
-same_alone (t.operation x BitOr y s) e = refl
-same_alone (t.operation x _ y s) e = refl
-same_alone (t.index (t.leaf (t.name n) u v) (t.single y) s) e = refl
-same_alone (t.index (t.leaf _ u v) (t.single y) s) e = refl
-same_alone (t.index _ (t.single y) s) e = refl
-same_alone (t.index x _ s) e = refl
-same_alone _ e = refl
-
-pub list_argument : (x : Expr) (ns : Members) (s : Extent) → t.place x ≡ s → Some ns ≡ list_members x → from (λ fs. list_form fs s) (forms_of argument ns) ≡ form_of argument x
-list_argument (t.list ms u) ns s at e = let same : ns ≡ ms = cc in ap (λ q. from (λ fs. list_form fs s) (forms_of argument q)) same ∙ ap (λ v. from (λ fs. list_form fs v) (forms_of argument ms)) (sym at)
-list_argument _ ns s at e = absurd (cc)
 
 -- a list that is a union
 pub union_is : (ms : Members) (s : Extent) → 2 ≤ member_count ms → form_of alone (t.list ms s) ≡ from (λ fs. union_form fs s) (forms_of alone ms)

@@ -1,3 +1,4 @@
+pub mod ArgumentKinds
 pub mod Assignable
 pub mod Forms
 pub mod Misfits

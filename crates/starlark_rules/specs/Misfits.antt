@@ -1,14 +1,14 @@
 -- Types as the code takes them apart.
 use Rattle.std.specs.Prelude.{◌≡◌, ℕ, List, [], ◌++◌, codes, fold, Option, Some, None, Result, Ok, Err}
-use Rattle.std.specs.Borrow.{Bor}
 use Rattle.starlark_place.specs.declared.pos.Spanned.{Spanned}
-use Rattle.starlark_ast.specs.declared.ast.ExprP.{ExprP}
 use Rattle.starlark_ast.specs.Tree as t
-use Rattle.starlark_ast.specs.Tree.{Expr, Members}
-use Rattle.starlark_ast.specs.Views.{items_of}
+use Rattle.starlark_ast.specs.Tree.{Expr}
 use Rattle.starlark_rules.specs.Forms.{form_at}
 use Rattle.starlark_rulebook.specs.Types.{Misfit, misfit, Forms, no_forms, add_form}
+use Rattle.starlark_rulebook.specs.Types as types
 use Rattle.starlark_rulebook.specs.View.{type_fault_view}
+use Rattle.starlark_rules.specs.declared.types.Role.{Role}
+use Rattle.starlark_rules.specs.declared.types.Role.TheVariants.{Alone, Argument}
 use Rattle.starlark_rules.specs.declared.types.Stop.{Stop}
 use Rattle.starlark_rules.specs.declared.types.Stop.TheVariants.{NoType, Memory}
 use Rattle.starlark_rules.specs.declared.type_expr.TypeExprUnpackP.{TypeExprUnpackP}
@@ -33,17 +33,12 @@ path_text (t.leaf (t.name n) u s) = n
 path_text (t.dot x n u s) = path_text x ++ codes "." ++ n
 path_text x = []
 
--- the members of a list
-abbrev pub list_members : Expr → Option Members
-list_members (t.list ms s) = Some ms
-list_members x = None
+-- where an expression stands, as the code names it
+abbrev pub role_of : Role → types.Role
+role_of Alone = types.alone
+role_of Argument = types.argument
 
 module _ {P L I A D T : Type 0} where
-  -- the same, lent
-  abbrev pub lent_members : Option (Bor (List (Spanned (ExprP P L I A D T)))) → Option Members
-  lent_members None = None
-  lent_members (Some xs) = Some (items_of xs.now)
-
   -- types in a row
   abbrev pub forms_view : List (Spanned (TypeExprUnpackP P L I A D T)) → Forms
   forms_view xs = fold (λ fs x. add_form fs (form_at x)) no_forms xs

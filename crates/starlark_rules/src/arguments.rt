@@ -3,7 +3,7 @@
 ghost use Rattle.std.specs.Prelude.{◌≡◌, ◌<◌, ◌-◌, None, IfOk, IfErr, IsOk, count_by, if◌then◌else◌};
 ghost use Rattle.starlark_ast.specs.View.{argument_at, call_args_view, members};
 ghost use Rattle.starlark_rulebook.specs.Calls as calls;
-ghost use Rattle.starlark_rules.specs.Unpacked as unpacked;
+ghost use Rattle.starlark_rules.specs.ArgumentKinds.{is_of};
 ghost use Rattle.starlark_rules.specs.Unpacked.{AreByKind, Unpacks, first_that, lent_argument};
 ghost use Rattle.starlark_rulebook.specs.View.{IsPlaced, RefusesFor};
 
@@ -54,34 +54,23 @@ fn by_kind<'a, P: AstPayload>(args: &'a [AstArgumentP<P>]) -> CallArgsUnpack<'a,
     requires { calls.first_call_fault (members argument_at args.now) ≡ None }
     ensures { AreByKind args.now result }
 {
-    let (pos, others) = args.split_at(positional_count(args));
-    let (named, _) = others.split_at(named_count(args));
+    let (pos, others) = args.split_at(count_of(args, ArgumentKind::Positional));
+    let (named, _) = others.split_at(count_of(args, ArgumentKind::Named));
     CallArgsUnpack {
         pos,
         named,
-        star: star(args),
-        star_star: star_star(args),
+        star: first_of(args, ArgumentKind::Args),
+        star_star: first_of(args, ArgumentKind::KwArgs),
     }
 }
 
-/// How many are positional: all but the others.
-fn positional_count<P: AstPayload>(args: &[AstArgumentP<P>]) -> usize
-    ensures { result ≡ count_by (λ x. unpacked.is_positional (argument_at x)) args.now }
+/// How many are of a kind: all but the others.
+fn count_of<P: AstPayload>(args: &[AstArgumentP<P>], kind: ArgumentKind) -> usize
+    ensures { result ≡ count_by (λ x. is_of kind (argument_at x)) args.now }
 {
     let mut count = args.len();
     for x in args {
-        count = less_if(count, !is_positional(x));
-    }
-    count
-}
-
-/// How many are named: all but the others.
-fn named_count<P: AstPayload>(args: &[AstArgumentP<P>]) -> usize
-    ensures { result ≡ count_by (λ x. unpacked.is_named (argument_at x)) args.now }
-{
-    let mut count = args.len();
-    for x in args {
-        count = less_if(count, !is_named(x));
+        count = less_if(count, !is_of(x, kind));
     }
     count
 }
@@ -94,74 +83,37 @@ pub(crate) fn less_if(count: usize, less: bool) -> usize
     if less { count - 1 } else { count }
 }
 
-/// Whether the argument is positional.
-fn is_positional<P: AstPayload>(x: &AstArgumentP<P>) -> bool
-    ensures { result ≡ unpacked.is_positional (argument_at x.now) }
-{
-    match &x.node {
-        ArgumentP::Positional(_) => true,
-        ArgumentP::Named(_, _) => false,
-        ArgumentP::Args(_) => false,
-        ArgumentP::KwArgs(_) => false,
-    }
-}
-
-/// Whether the argument is named.
-fn is_named<P: AstPayload>(x: &AstArgumentP<P>) -> bool
-    ensures { result ≡ unpacked.is_named (argument_at x.now) }
-{
-    match &x.node {
-        ArgumentP::Positional(_) => false,
-        ArgumentP::Named(_, _) => true,
-        ArgumentP::Args(_) => false,
-        ArgumentP::KwArgs(_) => false,
-    }
-}
-
-/// The first with `*`.
-fn star<P: AstPayload>(args: &[AstArgumentP<P>]) -> Option<&AstArgumentP<P>>
-    ensures { lent_argument result ≡ first_that (λ x. unpacked.is_starred (argument_at x)) args.now }
+/// The first of a kind.
+fn first_of<P: AstPayload>(args: &[AstArgumentP<P>], kind: ArgumentKind) -> Option<&AstArgumentP<P>>
+    ensures { lent_argument result ≡ first_that (λ x. is_of kind (argument_at x)) args.now }
 {
     for x in args {
-        if is_starred(x) {
+        if is_of(x, kind) {
             return Some(x);
         }
     }
     None
 }
 
-/// The first with `**`.
-fn star_star<P: AstPayload>(args: &[AstArgumentP<P>]) -> Option<&AstArgumentP<P>>
-    ensures { lent_argument result ≡ first_that (λ x. unpacked.is_double_starred (argument_at x)) args.now }
-{
-    for x in args {
-        if is_double_starred(x) {
-            return Some(x);
-        }
-    }
-    None
+/// What an argument is.
+#[derive(Clone, Copy)]
+pub(crate) enum ArgumentKind {
+    Positional,
+    Named,
+    /// With `*`.
+    Args,
+    /// With `**`.
+    KwArgs,
 }
 
-/// Whether the argument has `*`.
-fn is_starred<P: AstPayload>(x: &AstArgumentP<P>) -> bool
-    ensures { result ≡ unpacked.is_starred (argument_at x.now) }
+/// Whether an argument is of a kind.
+fn is_of<P: AstPayload>(x: &AstArgumentP<P>, kind: ArgumentKind) -> bool
+    ensures { result ≡ is_of kind (argument_at x.now) }
 {
     match &x.node {
-        ArgumentP::Positional(_) => false,
-        ArgumentP::Named(_, _) => false,
-        ArgumentP::Args(_) => true,
-        ArgumentP::KwArgs(_) => false,
-    }
-}
-
-/// Whether the argument has `**`.
-fn is_double_starred<P: AstPayload>(x: &AstArgumentP<P>) -> bool
-    ensures { result ≡ unpacked.is_double_starred (argument_at x.now) }
-{
-    match &x.node {
-        ArgumentP::Positional(_) => false,
-        ArgumentP::Named(_, _) => false,
-        ArgumentP::Args(_) => false,
-        ArgumentP::KwArgs(_) => true,
+        ArgumentP::Positional(_) => matches!(kind, ArgumentKind::Positional),
+        ArgumentP::Named(_, _) => matches!(kind, ArgumentKind::Named),
+        ArgumentP::Args(_) => matches!(kind, ArgumentKind::Args),
+        ArgumentP::KwArgs(_) => matches!(kind, ArgumentKind::KwArgs),
     }
 }

@@ -109,7 +109,8 @@ impl DefParamIndices {
         0..self.num_positional_only as usize
     }
 
-    /// Those behind the `/` and before `*`, `*args` and `**kwargs`.
+    /// Those behind the `/` and before `*`, `*args` and `**kwargs`. No more may stand before the `/` than before these,
+    /// as in what `DefParams::unpack` gives.
     pub fn pos_or_named(&self) -> Range<usize>
         requires { self.now.num_positional_only ≤ self.now.num_positional }
         ensures from { result.start ≡ self.now.num_positional_only }
@@ -118,7 +119,8 @@ impl DefParamIndices {
         self.num_positional_only as usize..self.num_positional as usize
     }
 
-    /// Those behind `*` or `*args` and before `**kwargs`, of `count` in all.
+    /// Those behind `*` or `*args` and before `**kwargs`, of `count` in all. `*args` and `**kwargs` are to stand in order
+    /// among so many, as in what `DefParams::unpack` gives, with the number of its parameters.
     pub fn named_only(&self, count: usize) -> Range<usize>
         requires { AreWithin self.now count }
         ensures from { result.start ≡ behind_args self.now }

@@ -2,7 +2,7 @@
 
 ghost use Rattle.std.specs.Prelude.{◌≡◌, if◌then◌else◌, Some, None};
 ghost use Rattle.starlark_place.specs.Place.{Holds};
-ghost use Rattle.starlark_rulebook.specs.Rules.{breaks};
+ghost use Rattle.starlark_rulebook.specs.Rules.{breaks, first_of as first};
 ghost use Rattle.starlark_rulebook.specs.View.{RefusesFor, finding_of, maybe_finding, rule_view};
 
 use starlark_place::codemap::CodeMap;
@@ -23,6 +23,16 @@ pub(crate) fn broken_if(is_broken: bool, rule: Rule, span: Span) -> Option<Spann
     ensures { maybe_finding result ≡ (if is_broken then Some (breaks (rule_view rule) span) else None) }
 {
     if is_broken { broken(rule, span) } else { None }
+}
+
+/// The first of two.
+pub(crate) fn first_of(a: Option<Spanned<Rule>>, b: Option<Spanned<Rule>>) -> Option<Spanned<Rule>>
+    ensures { maybe_finding result ≡ first (maybe_finding a) (maybe_finding b) }
+{
+    match a {
+        Some(found) => Some(found),
+        None => b,
+    }
 }
 
 /// The refusal for what was found.

@@ -7,7 +7,7 @@ ghost use Rattle.starlark_rulebook.specs.Kept as kept;
 ghost use Rattle.starlark_rulebook.specs.Rules.{first_finding};
 ghost use Rattle.starlark_rulebook.specs.View.{maybe_finding};
 
-use crate::finding::broken_if;
+use crate::finding::{broken_if, first_of};
 use crate::kept_expressions::{expression_fault, parameters_fault, target_fault, type_fault};
 use starlark_ast::ast::{
     AssignP, AstAssignTargetP, AstExprP, AstPayload, AstStmtP, AstTypeExprP, DefP, ForP, LoadP,
@@ -71,10 +71,10 @@ fn if_fault<P: AstPayload>(
 ) -> Option<Spanned<Rule>>
     ensures { maybe_finding result ≡ first_finding (kept.kept_expr dialect.now (expr_at condition.now) ++ kept.kept_rules dialect.now (stmt_at body.now)) }
 {
-    if let Some(found) = expression_fault(dialect, condition) {
-        return Some(found);
-    }
-    statement_fault(dialect, body)
+    first_of(
+        expression_fault(dialect, condition),
+        statement_fault(dialect, body),
+    )
 }
 
 /// That of a condition and of both that stand below it.
@@ -87,10 +87,10 @@ fn if_else_fault<P: AstPayload>(
 ) -> Option<Spanned<Rule>>
     ensures { maybe_finding result ≡ first_finding (kept.kept_expr dialect.now (expr_at condition.now) ++ kept.kept_rules dialect.now (stmt_at body.now) ++ kept.kept_rules dialect.now (stmt_at other.now)) }
 {
-    if let Some(found) = if_fault(dialect, condition, body) {
-        return Some(found);
-    }
-    statement_fault(dialect, other)
+    first_of(
+        if_fault(dialect, condition, body),
+        statement_fault(dialect, other),
+    )
 }
 
 /// That of a `for`: of its target, of what it goes over, of its body.
@@ -98,13 +98,13 @@ fn if_else_fault<P: AstPayload>(
 fn for_fault<P: AstPayload>(dialect: &Dialect, x: &ForP<P>) -> Option<Spanned<Rule>>
     ensures { maybe_finding result ≡ first_finding (kept.kept_expr dialect.now (target_at x.now.var) ++ kept.kept_expr dialect.now (expr_at x.now.over) ++ kept.kept_rules dialect.now (stmt_at x.now.body.value)) }
 {
-    if let Some(found) = target_fault(dialect, &x.var) {
-        return Some(found);
-    }
-    if let Some(found) = expression_fault(dialect, &x.over) {
-        return Some(found);
-    }
-    statement_fault(dialect, &x.body)
+    first_of(
+        first_of(
+            target_fault(dialect, &x.var),
+            expression_fault(dialect, &x.over),
+        ),
+        statement_fault(dialect, &x.body),
+    )
 }
 
 /// That of a `def`: of its parameters, of the type of its result, of its body.
@@ -112,13 +112,13 @@ fn for_fault<P: AstPayload>(dialect: &Dialect, x: &ForP<P>) -> Option<Spanned<Ru
 fn def_fault<P: AstPayload>(dialect: &Dialect, x: &DefP<P>) -> Option<Spanned<Rule>>
     ensures { maybe_finding result ≡ first_finding (kept.kept_members dialect.now (members parameter_at x.now.params.items) ++ kept.kept_annotation dialect.now (boxed_type x.now.return_type) ++ kept.kept_rules dialect.now (stmt_at x.now.body.value)) }
 {
-    if let Some(found) = parameters_fault(dialect, &x.params) {
-        return Some(found);
-    }
-    if let Some(found) = type_fault(dialect, &x.return_type) {
-        return Some(found);
-    }
-    statement_fault(dialect, &x.body)
+    first_of(
+        first_of(
+            parameters_fault(dialect, &x.params),
+            type_fault(dialect, &x.return_type),
+        ),
+        statement_fault(dialect, &x.body),
+    )
 }
 
 /// That of a value, if there is one.
@@ -138,13 +138,13 @@ fn value_fault<P: AstPayload>(
 fn assign_fault<P: AstPayload>(dialect: &Dialect, x: &AssignP<P>) -> Option<Spanned<Rule>>
     ensures { maybe_finding result ≡ first_finding (kept.kept_expr dialect.now (target_at x.now.lhs) ++ kept.kept_annotation dialect.now (maybe_type x.now.ty) ++ kept.kept_expr dialect.now (expr_at x.now.rhs)) }
 {
-    if let Some(found) = target_fault(dialect, &x.lhs) {
-        return Some(found);
-    }
-    if let Some(found) = its_type_fault(dialect, &x.ty) {
-        return Some(found);
-    }
-    expression_fault(dialect, &x.rhs)
+    first_of(
+        first_of(
+            target_fault(dialect, &x.lhs),
+            its_type_fault(dialect, &x.ty),
+        ),
+        expression_fault(dialect, &x.rhs),
+    )
 }
 
 /// That of its type, if it has one.
@@ -168,10 +168,10 @@ fn modify_fault<P: AstPayload>(
 ) -> Option<Spanned<Rule>>
     ensures { maybe_finding result ≡ first_finding (kept.kept_expr dialect.now (target_at target.now) ++ kept.kept_expr dialect.now (expr_at value.now)) }
 {
-    if let Some(found) = target_fault(dialect, target) {
-        return Some(found);
-    }
-    expression_fault(dialect, value)
+    first_of(
+        target_fault(dialect, target),
+        expression_fault(dialect, value),
+    )
 }
 
 /// A load that binds nothing, at its module.

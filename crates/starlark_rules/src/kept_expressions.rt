@@ -10,7 +10,7 @@ ghost use Rattle.starlark_rulebook.specs.Rules.{first_finding, listed};
 ghost use Rattle.starlark_rulebook.specs.View.{maybe_finding};
 
 use crate::call::call_fault;
-use crate::finding::broken;
+use crate::finding::{broken, first_of};
 use starlark_ast::ast::{
     AssignTargetP, AstArgumentP, AstAssignTargetP, AstExprP, AstFStringP, AstParameterP,
     AstPayload, AstTypeExprP, ClauseP, ExprP, ForClauseP, LambdaP, ParameterP,
@@ -64,10 +64,7 @@ fn two_fault<P: AstPayload>(
 ) -> Option<Spanned<Rule>>
     ensures { maybe_finding result ≡ first_finding (kept.kept_expr dialect.now (expr_at x.now) ++ kept.kept_expr dialect.now (expr_at y.now)) }
 {
-    if let Some(found) = expression_fault(dialect, x) {
-        return Some(found);
-    }
-    expression_fault(dialect, y)
+    first_of(expression_fault(dialect, x), expression_fault(dialect, y))
 }
 
 /// That of three expressions.
@@ -80,10 +77,7 @@ fn three_fault<P: AstPayload>(
 ) -> Option<Spanned<Rule>>
     ensures { maybe_finding result ≡ first_finding (kept.kept_expr dialect.now (expr_at x.now) ++ kept.kept_expr dialect.now (expr_at y.now) ++ kept.kept_expr dialect.now (expr_at z.now)) }
 {
-    if let Some(found) = two_fault(dialect, x, y) {
-        return Some(found);
-    }
-    expression_fault(dialect, z)
+    first_of(two_fault(dialect, x, y), expression_fault(dialect, z))
 }
 
 /// That of several expressions.
@@ -124,13 +118,13 @@ fn whole_call_fault<P: AstPayload>(
 ) -> Option<Spanned<Rule>>
     ensures { maybe_finding result ≡ first_finding (kept.kept_expr dialect.now (expr_at called.now) ++ kept.kept_members dialect.now (members argument_at args.now) ++ listed (first_call_fault (members argument_at args.now))) }
 {
-    if let Some(found) = expression_fault(dialect, called) {
-        return Some(found);
-    }
-    if let Some(found) = arguments_fault(dialect, args) {
-        return Some(found);
-    }
-    call_fault(args)
+    first_of(
+        first_of(
+            expression_fault(dialect, called),
+            arguments_fault(dialect, args),
+        ),
+        call_fault(args),
+    )
 }
 
 /// That of the expressions of arguments.
@@ -160,16 +154,11 @@ fn slice_fault<P: AstPayload>(
 ) -> Option<Spanned<Rule>>
     ensures { maybe_finding result ≡ first_finding (kept.kept_expr dialect.now (expr_at object.now) ++ (kept.kept_bound dialect.now (boxed_expr from.now) ++ kept.kept_bound dialect.now (boxed_expr to.now) ++ kept.kept_bound dialect.now (boxed_expr step.now))) }
 {
-    if let Some(found) = expression_fault(dialect, object) {
-        return Some(found);
-    }
-    if let Some(found) = bound_fault(dialect, from) {
-        return Some(found);
-    }
-    if let Some(found) = bound_fault(dialect, to) {
-        return Some(found);
-    }
-    bound_fault(dialect, step)
+    let ends = first_of(bound_fault(dialect, from), bound_fault(dialect, to));
+    first_of(
+        expression_fault(dialect, object),
+        first_of(ends, bound_fault(dialect, step)),
+    )
 }
 
 /// That of an expression, if there is one.
@@ -205,10 +194,10 @@ pub(crate) fn type_fault<P: AstPayload>(
 fn lambda_fault<P: AstPayload>(dialect: &Dialect, x: &LambdaP<P>) -> Option<Spanned<Rule>>
     ensures { maybe_finding result ≡ first_finding (kept.kept_members dialect.now (members parameter_at x.now.params.items) ++ kept.kept_expr dialect.now (expr_at x.now.body.value)) }
 {
-    if let Some(found) = parameters_fault(dialect, &x.params) {
-        return Some(found);
-    }
-    expression_fault(dialect, &x.body)
+    first_of(
+        parameters_fault(dialect, &x.params),
+        expression_fault(dialect, &x.body),
+    )
 }
 
 /// That of the types and the defaults of parameters.
@@ -250,10 +239,7 @@ fn normal_fault<P: AstPayload>(
 ) -> Option<Spanned<Rule>>
     ensures { maybe_finding result ≡ first_finding (kept.kept_annotation dialect.now (boxed_type ty.now) ++ kept.kept_bound dialect.now (boxed_expr default.now)) }
 {
-    if let Some(found) = type_fault(dialect, ty) {
-        return Some(found);
-    }
-    bound_fault(dialect, default)
+    first_of(type_fault(dialect, ty), bound_fault(dialect, default))
 }
 
 /// That of the element of a list comprehension and of its clauses.
@@ -266,10 +252,10 @@ fn list_fault<P: AstPayload>(
 ) -> Option<Spanned<Rule>>
     ensures { maybe_finding result ≡ first_finding (kept.kept_expr dialect.now (expr_at element.now) ++ kept.kept_clauses dialect.now (clauses_of first.now rest.now)) }
 {
-    if let Some(found) = expression_fault(dialect, element) {
-        return Some(found);
-    }
-    clauses_fault(dialect, first, rest)
+    first_of(
+        expression_fault(dialect, element),
+        clauses_fault(dialect, first, rest),
+    )
 }
 
 /// That of the key and the value of a dict comprehension and of its clauses.
@@ -283,10 +269,10 @@ fn dict_fault<P: AstPayload>(
 ) -> Option<Spanned<Rule>>
     ensures { maybe_finding result ≡ first_finding (kept.kept_expr dialect.now (expr_at key.now) ++ kept.kept_expr dialect.now (expr_at value.now) ++ kept.kept_clauses dialect.now (clauses_of first.now rest.now)) }
 {
-    if let Some(found) = two_fault(dialect, key, value) {
-        return Some(found);
-    }
-    clauses_fault(dialect, first, rest)
+    first_of(
+        two_fault(dialect, key, value),
+        clauses_fault(dialect, first, rest),
+    )
 }
 
 /// That of the clauses of a comprehension.
@@ -325,10 +311,10 @@ fn clause_fault<P: AstPayload>(dialect: &Dialect, x: &ClauseP<P>) -> Option<Span
 fn for_clause_fault<P: AstPayload>(dialect: &Dialect, x: &ForClauseP<P>) -> Option<Spanned<Rule>>
     ensures { maybe_finding result ≡ first_finding (kept.kept_clauses dialect.now (t.and_clause t.no_clauses (for_clause_view x.now))) }
 {
-    if let Some(found) = target_fault(dialect, &x.var) {
-        return Some(found);
-    }
-    expression_fault(dialect, &x.over)
+    first_of(
+        target_fault(dialect, &x.var),
+        expression_fault(dialect, &x.over),
+    )
 }
 
 /// That of the expressions in a target.
@@ -368,10 +354,10 @@ fn targets_fault<P: AstPayload>(
 fn fstring_fault<P: AstPayload>(dialect: &Dialect, x: &AstFStringP<P>) -> Option<Spanned<Rule>>
     ensures { maybe_finding result ≡ first_finding (kept.kept_members dialect.now (items_of x.now.node.expressions.items) ++ listed (kept.fstring_fault dialect.now x.now.span)) }
 {
-    if let Some(found) = items_fault(dialect, &x.node.expressions) {
-        return Some(found);
-    }
-    disabled_fault(dialect, x.span)
+    first_of(
+        items_fault(dialect, &x.node.expressions),
+        disabled_fault(dialect, x.span),
+    )
 }
 
 /// An f-string where they are off.

@@ -8,7 +8,7 @@ ghost use Rattle.starlark_rulebook.specs.Calls.{any};
 ghost use Rattle.starlark_rulebook.specs.Parameters as parameters;
 ghost use Rattle.starlark_rulebook.specs.View.{maybe_finding};
 
-use crate::finding::{broken, broken_if};
+use crate::finding::{broken, broken_if, first_of};
 use starlark_ast::ast::{AstAssignIdentP, AstExprP, AstParameterP, AstPayload, ParameterP};
 use starlark_place::pos::{Pos, Span, Spanned};
 use starlark_rulebook::rule::Rule;
@@ -215,16 +215,6 @@ fn required_fault<P: AstPayload>(
             Rule::RequiredAfterOptional,
             span,
         ),
-    }
-}
-
-/// The first of two.
-fn first_of(a: Option<Spanned<Rule>>, b: Option<Spanned<Rule>>) -> Option<Spanned<Rule>>
-    ensures { maybe_finding result ≡ first (maybe_finding a) (maybe_finding b) }
-{
-    match a {
-        Some(found) => Some(found),
-        None => b,
     }
 }
 

@@ -7,7 +7,7 @@ ghost use Rattle.starlark_rulebook.specs.Types as types;
 ghost use Rattle.starlark_rulebook.specs.View.{IsPlaced};
 ghost use Rattle.starlark_rules.specs.Wildcards.{is_wildcard};
 
-use crate::types::{Stop, type_parts};
+use crate::types::{Role, Stop, type_parts};
 use starlark_ast::ast::{AstExprP, AstIdentP, AstPayload};
 use starlark_place::codemap::CodeMap;
 use starlark_place::diagnostic::Refusal;
@@ -76,7 +76,7 @@ impl<'a, P: AstPayload> TypeExprUnpackP<'a, P> {
         ensures taken { IfOk result (λ u. types.type_form (expr_at expr.now) ≡ Ok (form_at u)) }
         ensures refused { IfErr result (RefusesType (types.type_form (expr_at expr.now)) codemap.now) }
     {
-        match type_parts(alloc, expr) {
+        match type_parts(alloc, Role::Alone, expr) {
             Ok(node) => Ok(Spanned {
                 span: expr.span,
                 node,

@@ -6,7 +6,7 @@ ghost use Rattle.starlark_ast.specs.Tree as tree;
 ghost use Rattle.starlark_ast.specs.View.{expr_at, literal_view};
 ghost use Rattle.starlark_ast.specs.Views.{items_of};
 ghost use Rattle.starlark_rules.specs.Forms.{attribute, form_at, form_view, path_view, read_at};
-ghost use Rattle.starlark_rules.specs.Misfits.{Comes, forms_view, lent_members, list_members, path_text, stop_for};
+ghost use Rattle.starlark_rules.specs.Misfits.{Comes, forms_view, path_text, role_of, stop_for};
 ghost use Rattle.starlark_rulebook.specs.Rules as rules;
 ghost use Rattle.starlark_rulebook.specs.Types as types;
 ghost use Rattle.starlark_rulebook.specs.View.{maybe_finding};
@@ -26,7 +26,7 @@ pub fn type_fault<P: AstPayload>(
 ) -> Result<Option<Spanned<Rule>>, AllocError>
     ensures { IfOk result (λ found. maybe_finding found ≡ types.first_type_fault (expr_at x.now)) }
 {
-    match type_parts(alloc, x) {
+    match type_parts(alloc, Role::Alone, x) {
         Ok(_) => Ok(None),
         Err(Stop::NoType(Spanned { span, node })) => Ok(Some(Spanned {
             span,
@@ -56,6 +56,14 @@ impl From<AllocError> for Stop {
     }
 }
 
+/// Where an expression stands that should be a type.
+#[derive(Clone, Copy)]
+pub(crate) enum Role {
+    Alone,
+    /// In brackets behind a path, where a list may stand, too.
+    Argument,
+}
+
 /// The parts of a type, without its place.
 type Parts<'a, P> = Result<TypeExprUnpackP<'a, P>, Stop>;
 
@@ -64,15 +72,19 @@ type Several<'a, P> = Result<Vec<Spanned<TypeExprUnpackP<'a, P>>>, Stop>;
 
 /// The parts of a type.
 #[cycle(parts)]
-pub(crate) fn type_parts<'a, P: AstPayload>(alloc: Global, x: &'a AstExprP<P>) -> Parts<'a, P>
-    ensures { Comes (λ u. form_view u x.now.span) (types.form_of types.alone (expr_at x.now)) result }
+pub(crate) fn type_parts<'a, P: AstPayload>(
+    alloc: Global,
+    role: Role,
+    x: &'a AstExprP<P>,
+) -> Parts<'a, P>
+    ensures { Comes (λ u. form_view u x.now.span) (types.form_of (role_of role) (expr_at x.now)) result }
 {
     match &x.node {
-        ExprP::Identifier(name) => Ok(identifier(alloc, name)),
+        ExprP::Identifier(_) => path_type(path_parts(alloc, x)),
         ExprP::Literal(literal) => literal_parts(literal, x.span),
         ExprP::Dot(object, name) => path_type(dotted(alloc, object, name)),
-        ExprP::Tuple(xs) => tuple_type(each_type(alloc, xs)),
-        ExprP::List(xs) => list_parts(alloc, xs, x.span),
+        ExprP::Tuple(xs) => tuple_type(each_type(alloc, Role::Alone, xs)),
+        ExprP::List(xs) => list_parts(alloc, role, xs, x.span),
         ExprP::Op(left, operator, right) => {
             operation_parts(alloc, left, *operator, right, x.span)
         }
@@ -95,12 +107,12 @@ pub(crate) fn type_parts<'a, P: AstPayload>(alloc: Global, x: &'a AstExprP<P>) -
 
 /// The parts of several types.
 #[cycle(parts)]
-fn each_type<'a, P: AstPayload>(alloc: Global, xs: &'a [AstExprP<P>]) -> Several<'a, P>
-    ensures { Comes (λ v. forms_view v.items) (types.forms_of types.alone (items_of xs.now)) result }
+fn each_type<'a, P: AstPayload>(alloc: Global, role: Role, xs: &'a [AstExprP<P>]) -> Several<'a, P>
+    ensures { Comes (λ v. forms_view v.items) (types.forms_of (role_of role) (items_of xs.now)) result }
 {
     let mut out = Vec::new(alloc);
     for x in xs {
-        add_part(&mut out, x.span, type_parts(alloc, x))?;
+        add_part(&mut out, x.span, type_parts(alloc, role, x))?;
     }
     Ok(out)
 }
@@ -115,8 +127,8 @@ fn both_types<'a, P: AstPayload>(
     ensures { Comes (λ v. forms_view v.items) (types.from_both (λ f g. types.add_form (types.add_form types.no_forms f) g) (types.form_of types.alone (expr_at x.now)) (types.form_of types.alone (expr_at y.now))) result }
 {
     let mut both = Vec::new(alloc);
-    add_part(&mut both, x.span, type_parts(alloc, x))?;
-    add_part(&mut both, y.span, type_parts(alloc, y))?;
+    add_part(&mut both, x.span, type_parts(alloc, Role::Alone, x))?;
+    add_part(&mut both, y.span, type_parts(alloc, Role::Alone, y))?;
     Ok(both)
 }
 
@@ -129,7 +141,7 @@ fn operation_parts<'a, P: AstPayload>(
     y: &'a AstExprP<P>,
     span: Span,
 ) -> Parts<'a, P>
-    ensures { Comes (λ u. form_view u span) (types.form_of types.alone (tree.operation (expr_at x.now) operator (expr_at y.now) span)) result }
+    ensures { (r : types.Role) → Comes (λ u. form_view u span) (types.form_of r (tree.operation (expr_at x.now) operator (expr_at y.now) span)) result }
 {
     match operator {
         BinOp::BitOr => union_type(both_types(alloc, x, y)),
@@ -137,15 +149,23 @@ fn operation_parts<'a, P: AstPayload>(
     }
 }
 
-/// The parts of a list, which is a union of two types or more.
+/// The parts of a list: an argument, or alone a union of two types or more.
 #[cycle(parts)]
-fn list_parts<'a, P: AstPayload>(alloc: Global, xs: &'a [AstExprP<P>], span: Span) -> Parts<'a, P>
-    ensures { Comes (λ u. form_view u span) (types.form_of types.alone (tree.list (items_of xs.now) span)) result }
+fn list_parts<'a, P: AstPayload>(
+    alloc: Global,
+    role: Role,
+    xs: &'a [AstExprP<P>],
+    span: Span,
+) -> Parts<'a, P>
+    ensures { Comes (λ u. form_view u span) (types.form_of (role_of role) (tree.list (items_of xs.now) span)) result }
 {
-    match xs {
-        [] => Err(fault(TypeExprUnpackError::EmptyListInType, span)),
-        [_] => Err(no_type("list of 1 element", span)),
-        [_, _, ..] => union_type(each_type(alloc, xs)),
+    match role {
+        Role::Argument => list_type(each_type(alloc, Role::Argument, xs)),
+        Role::Alone => match xs {
+            [] => Err(fault(TypeExprUnpackError::EmptyListInType, span)),
+            [_] => Err(no_type("list of 1 element", span)),
+            [_, _, ..] => union_type(each_type(alloc, Role::Alone, xs)),
+        },
     }
 }
 
@@ -157,13 +177,13 @@ fn index_parts<'a, P: AstPayload>(
     index: &'a AstExprP<P>,
     span: Span,
 ) -> Parts<'a, P>
-    ensures { Comes (λ u. form_view u span) (types.form_of types.alone (tree.index (expr_at array.now) (tree.single (expr_at index.now)) span)) result }
+    ensures { (r : types.Role) → Comes (λ u. form_view u span) (types.form_of r (tree.index (expr_at array.now) (tree.single (expr_at index.now)) span)) result }
 {
     match &array.node {
         ExprP::Identifier(name) => {
             index_type(
                 name,
-                boxed_part(alloc, index.span, type_parts(alloc, index)),
+                boxed_part(alloc, index.span, type_parts(alloc, Role::Alone, index)),
             )
         }
         _ => {
@@ -184,33 +204,10 @@ fn index2_parts<'a, P: AstPayload>(
     ensures { (s : Extent) → Comes (λ u. form_view u s) (types.index2_of array.now.span s (types.path_of (expr_at array.now)) (types.form_of types.argument (expr_at x.now)) (types.form_of types.argument (expr_at y.now))) result }
 {
     let path = path_parts(alloc, array)?;
-    let first = boxed_part(alloc, x.span, argument_parts(alloc, x))?;
-    let second = boxed_part(alloc, y.span, argument_parts(alloc, y))?;
+    let first = boxed_part(alloc, x.span, type_parts(alloc, Role::Argument, x))?;
+    let second = boxed_part(alloc, y.span, type_parts(alloc, Role::Argument, y))?;
     let span = array.span;
     Ok(TypeExprUnpackP::Index2(Spanned { span, node: path }, first, second))
-}
-
-/// The parts of a type or a list in brackets behind a path.
-#[cycle(parts)]
-fn argument_parts<'a, P: AstPayload>(alloc: Global, x: &'a AstExprP<P>) -> Parts<'a, P>
-    ensures { Comes (λ u. form_view u x.now.span) (types.form_of types.argument (expr_at x.now)) result }
-{
-    match members_of(x) {
-        Some(xs) => list_type(each_argument(alloc, xs)),
-        None => type_parts(alloc, x),
-    }
-}
-
-/// The parts of several arguments.
-#[cycle(parts)]
-fn each_argument<'a, P: AstPayload>(alloc: Global, xs: &'a [AstExprP<P>]) -> Several<'a, P>
-    ensures { Comes (λ v. forms_view v.items) (types.forms_of types.argument (items_of xs.now)) result }
-{
-    let mut out = Vec::new(alloc);
-    for x in xs {
-        add_part(&mut out, x.span, argument_parts(alloc, x))?;
-    }
-    Ok(out)
 }
 
 /// Adds a type and its place.
@@ -236,14 +233,6 @@ fn boxed_part<'a, P: AstPayload>(
 {
     let node = made?;
     Ok(boxed_at(alloc, span, node)?)
-}
-
-/// An identifier alone.
-fn identifier<'a, P: AstPayload>(alloc: Global, first: &'a AstIdentP<P>) -> TypeExprUnpackP<'a, P>
-    ensures { (s : Extent) → form_view result s ≡ types.path_form (types.path (read_at first.now) []) s }
-{
-    let rem = Vec::new(alloc);
-    TypeExprUnpackP::Path(TypePathP { first, rem })
 }
 
 /// A path as a type.
@@ -284,16 +273,6 @@ fn list_type<'a, P: AstPayload>(members: Several<'a, P>) -> Parts<'a, P>
     Ok(TypeExprUnpackP::List(members?))
 }
 
-/// The members of a list.
-fn members_of<P: AstPayload>(x: &AstExprP<P>) -> Option<&[AstExprP<P>]>
-    ensures { lent_members result ≡ list_members (expr_at x.now) }
-{
-    match &x.node {
-        ExprP::List(xs) => Some(xs),
-        _ => None,
-    }
-}
-
 /// A value and its place, in a box.
 fn boxed_at<T: Drop>(alloc: Global, span: Span, node: T) -> Result<Box<Spanned<T>>, AllocError>
     ensures { IfOk result (λ b. b.value ≡ record { span = span; node = node }) }
@@ -317,7 +296,7 @@ fn no_type(word: &'static str, span: Span) -> Stop
 
 /// A literal, which is no type but for `...`.
 fn literal_parts<'a, P: AstPayload>(literal: &AstLiteral, span: Span) -> Parts<'a, P>
-    ensures { Comes (λ u. form_view u span) (types.form_of types.alone (literal_view literal.now span)) result }
+    ensures { (r : types.Role) → Comes (λ u. form_view u span) (types.form_of r (literal_view literal.now span)) result }
 {
     match literal {
         AstLiteral::Ellipsis => Ok(TypeExprUnpackP::Ellipsis),

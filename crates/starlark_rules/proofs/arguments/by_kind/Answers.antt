@@ -10,7 +10,7 @@ use Rattle.starlark_rules.proofs.arguments.by_kind.Goals as goal
 pub split_at-requires : goal.split_at-requires
 split_at-requires g c =
     let xs = c.args.args.now in
-    omega (arith, c.positional_count.ensures, count_only is_positional argument_at xs, only_fewer is_positional (members argument_at xs), count_members argument_at xs)
+    omega (arith, c.count_of.ensures, count_only is_positional argument_at xs, only_fewer is_positional (members argument_at xs), count_members argument_at xs)
 
 pub split_at-requires-2 : goal.split_at-requires-2
 split_at-requires-2 g c =
@@ -19,8 +19,8 @@ split_at-requires-2 g c =
     let pos = c.split_at.result.0.now in
     let others = c.split_at.result.1.now in
     let whole : members argument_at (pos ++ others) ≡ join (only is_positional ms) (join (only is_named ms) (only is_star ms)) = ap (members argument_at) (sym c.split_at.ensures.by_index.0) ∙ in_order ms (are_arguments xs) c.requires in
-    let first = cut argument_at pos others (only is_positional ms) (join (only is_named ms) (only is_star ms)) whole (c.split_at.ensures.front_len ∙ c.positional_count.ensures ∙ sym (count_only is_positional argument_at xs)) in
-    omega (arith, c.named_count.ensures, count_only is_named argument_at xs, count_join (only is_named ms) (only is_star ms), ap member_count first.1, count_members argument_at others)
+    let first = cut argument_at pos others (only is_positional ms) (join (only is_named ms) (only is_star ms)) whole (c.split_at.ensures.front_len ∙ c.count_of.ensures ∙ sym (count_only is_positional argument_at xs)) in
+    omega (arith, c.count_of-2.ensures, count_only is_named argument_at xs, count_join (only is_named ms) (only is_star ms), ap member_count first.1, count_members argument_at others)
 
 pub returns : goal.returns
 returns g c =
@@ -31,13 +31,13 @@ returns g c =
     let named = c.split_at-2.result.0.now in
     let rest = c.split_at-2.result.1.now in
     let whole : members argument_at (pos ++ others) ≡ join (only is_positional ms) (join (only is_named ms) (only is_star ms)) = ap (members argument_at) (sym c.split_at.ensures.by_index.0) ∙ in_order ms (are_arguments xs) c.requires in
-    let first = cut argument_at pos others (only is_positional ms) (join (only is_named ms) (only is_star ms)) whole (c.split_at.ensures.front_len ∙ c.positional_count.ensures ∙ sym (count_only is_positional argument_at xs)) in
+    let first = cut argument_at pos others (only is_positional ms) (join (only is_named ms) (only is_star ms)) whole (c.split_at.ensures.front_len ∙ c.count_of.ensures ∙ sym (count_only is_positional argument_at xs)) in
     let behind : members argument_at (named ++ rest) ≡ join (only is_named ms) (only is_star ms) = ap (members argument_at) (sym c.split_at-2.ensures.by_index.0) ∙ first.1 in
-    let second = cut argument_at named rest (only is_named ms) (only is_star ms) behind (c.split_at-2.ensures.front_len ∙ c.named_count.ensures ∙ sym (count_only is_named argument_at xs)) in
+    let second = cut argument_at named rest (only is_named ms) (only is_star ms) behind (c.split_at-2.ensures.front_len ∙ c.count_of-2.ensures ∙ sym (count_only is_named argument_at xs)) in
     record {
       pos = first.0;
       named = second.0;
-      star = c.star.ensures;
-      star_star = c.star_star.ensures;
+      star = c.first_of.ensures;
+      star_star = c.first_of-2.ensures;
       front = (rest, append_assoc pos named rest ∙ ap (λ q. pos ++ q) (sym c.split_at-2.ensures.by_index.0) ∙ sym c.split_at.ensures.by_index.0);
     }

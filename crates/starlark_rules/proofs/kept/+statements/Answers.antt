@@ -6,7 +6,7 @@ use Rattle.starlark_ast.specs.View.{stmt_at, stmt_view, members, parameter_at, e
 use Rattle.starlark_rulebook.specs.Kept as kept
 use Rattle.starlark_rulebook.specs.Rules.{first_finding}
 use Rattle.starlark_rulebook.specs.View.{finding_of}
-use Rattle.starlark_rules.proofs.Firsts.{at_statement, given, past, past_statement, stays}
+use Rattle.starlark_rules.proofs.Firsts.{at_statement, first_in, given, past_statement}
 use Rattle.starlark_visit.specs.Sizes.{statement_size, sequence_size}
 use Rattle.starlark_visit.proofs.SmallerStatements.{one_of_statements}
 use Rattle.starlark_rules.proofs.kept.+statements.Goals as goal
@@ -35,46 +35,26 @@ statements_fault-returns g n c =
 
 -- ---- a few parts, one behind the other
 
-pub if_fault-returns-in-Some : goal.if_fault-returns-in-Some
-if_fault-returns-in-Some g n c = stays _ _ _ (given _ _ _ c.in-Some.is c.expression_fault.ensures)
-
 pub if_fault-returns : goal.if_fault-returns
-if_fault-returns g n c = past _ _ _ (given _ _ _ c.in_default.is c.expression_fault.ensures) c.statement_fault.ensures
-
-pub if_else_fault-returns-in-Some : goal.if_else_fault-returns-in-Some
-if_else_fault-returns-in-Some g n c = stays _ _ _ (given _ _ _ c.in-Some.is c.if_fault.ensures)
+if_fault-returns g n c = first_in _ _ _ _ _ c.expression_fault.ensures c.statement_fault.ensures c.first_of.ensures
 
 pub if_else_fault-returns : goal.if_else_fault-returns
-if_else_fault-returns g n c = past _ _ _ (given _ _ _ c.in_default.is c.if_fault.ensures) c.statement_fault.ensures
-
-pub for_fault-returns-in-Some : goal.for_fault-returns-in-Some
-for_fault-returns-in-Some g n c = stays _ _ _ (stays _ _ _ (given _ _ _ c.in-Some.is c.target_fault.ensures))
-
-pub for_fault-returns-in-Some-expression_fault : goal.for_fault-returns-in-Some-expression_fault
-for_fault-returns-in-Some-expression_fault g n c =
-    stays _ _ _ (past _ _ _ (given _ _ _ c.in_default.is c.target_fault.ensures) (given _ _ _ c.in-Some-expression_fault.is c.expression_fault.ensures))
+if_else_fault-returns g n c = first_in _ _ _ _ _ c.if_fault.ensures c.statement_fault.ensures c.first_of.ensures
 
 pub for_fault-returns : goal.for_fault-returns
 for_fault-returns g n c =
     let d = c.args.dialect.now in
-    past _ _ _ (past _ _ _ (given _ _ _ c.in_default.is c.target_fault.ensures) (given _ _ _ c.in_default-expression_fault.is c.expression_fault.ensures))
+    first_in _ _ _ _ _ (first_in _ _ _ _ _ c.target_fault.ensures c.expression_fault.ensures c.first_of.ensures)
     (c.statement_fault.ensures ∙ ap (λ y. first_finding (kept.kept_rules d (stmt_at y))) c.deref.ensures)
-
-pub def_fault-returns-in-Some : goal.def_fault-returns-in-Some
-def_fault-returns-in-Some g n c =
-    let d = c.args.dialect.now in
-    stays _ _ _ (stays _ _ _ (given _ _ _ c.in-Some.is (c.parameters_fault.ensures ∙ ap (λ q. first_finding (kept.kept_members d (members parameter_at q))) c.deref.ensures.value)))
-
-pub def_fault-returns-in-Some-type_fault : goal.def_fault-returns-in-Some-type_fault
-def_fault-returns-in-Some-type_fault g n c =
-    let d = c.args.dialect.now in
-    stays _ _ _ (past _ _ _ (given _ _ _ c.in_default.is (c.parameters_fault.ensures ∙ ap (λ q. first_finding (kept.kept_members d (members parameter_at q))) c.deref.ensures.value)) (given _ _ _ c.in-Some-type_fault.is c.type_fault.ensures))
+    c.first_of-2.ensures
 
 pub def_fault-returns : goal.def_fault-returns
 def_fault-returns g n c =
     let d = c.args.dialect.now in
-    past _ _ _ (past _ _ _ (given _ _ _ c.in_default.is (c.parameters_fault.ensures ∙ ap (λ q. first_finding (kept.kept_members d (members parameter_at q))) c.deref.ensures.value)) (given _ _ _ c.in_default-type_fault.is c.type_fault.ensures))
+    first_in _ _ _ _ _
+    (first_in _ _ _ _ _ (c.parameters_fault.ensures ∙ ap (λ q. first_finding (kept.kept_members d (members parameter_at q))) c.deref.ensures.value) c.type_fault.ensures c.first_of.ensures)
     (c.statement_fault.ensures ∙ ap (λ y. first_finding (kept.kept_rules d (stmt_at y))) c.deref-2.ensures)
+    c.first_of-2.ensures
 
 -- ---- a statement
 

@@ -1,12 +1,12 @@
 use Rattle.std.proofs.Common.{◌∙◌, ◌++◌, sym, ap, append_assoc, arith}
 use Rattle.starlark_ast.specs.Tree as tree
 use Rattle.starlark_ast.specs.View.{argument_at, clause_view, expr_at, expr_view, for_clause_view, members, parameter_at, target_at, target_view}
-use Rattle.starlark_ast.specs.Views.{clauses_of, items_of, pairs_of, targets_of, expr_view-Tuple, expr_view-Call, expr_view-Index2, expr_view-Lambda, expr_view-List, expr_view-Dict, expr_view-ListComprehension, expr_view-DictComprehension, expr_view-FString, target_view-Tuple, view-args, view-fstring, view-lambda}
+use Rattle.starlark_ast.specs.Views.{clauses_of, items_of, pairs_of, targets_of, expr_view-Tuple, expr_view-Call, expr_view-Index2, expr_view-Lambda, expr_view-List, expr_view-Dict, expr_view-ListComprehension, expr_view-DictComprehension, expr_view-FString, target_view-Tuple, view-args, view-for_clause, view-fstring, view-lambda}
 use Rattle.starlark_rulebook.specs.Calls.{first_call_fault}
 use Rattle.starlark_rulebook.specs.Kept as kept
 use Rattle.starlark_rulebook.specs.Rules.{first_finding, listed}
 use Rattle.starlark_rulebook.specs.View.{finding_of}
-use Rattle.starlark_rules.proofs.Firsts.{argument_keeps, at_clause, at_front, at_member, first_listed, given, past, past_clause, past_member, stays}
+use Rattle.starlark_rules.proofs.Firsts.{argument_keeps, at_clause, at_front, at_member, first_in, first_listed, given, past_clause, past_member}
 use Rattle.starlark_visit.specs.Sizes.{size, sizes, clause_sizes}
 use Rattle.starlark_rules.proofs.Within.{clause_is_less, member_is_less}
 use Rattle.starlark_visit.proofs.Members.{argument_size, more_clauses}
@@ -114,56 +114,52 @@ clauses_fault-loop-x-preserved g n c =
 
 -- ---- a few parts, one behind the other
 
-pub dict_fault-returns-in-Some : goal.dict_fault-returns-in-Some
-dict_fault-returns-in-Some g n c = stays _ _ _ (given _ _ _ c.in-Some.is c.two_fault.ensures)
-
-pub dict_fault-returns : goal.dict_fault-returns
-dict_fault-returns g n c = past _ _ _ (given _ _ _ c.in_default.is c.two_fault.ensures) c.clauses_fault.ensures
-
-pub list_fault-returns-in-Some : goal.list_fault-returns-in-Some
-list_fault-returns-in-Some g n c = stays _ _ _ (given _ _ _ c.in-Some.is c.expression_fault.ensures)
-
-pub list_fault-returns : goal.list_fault-returns
-list_fault-returns g n c = past _ _ _ (given _ _ _ c.in_default.is c.expression_fault.ensures) c.clauses_fault.ensures
-
-pub three_fault-returns-in-Some : goal.three_fault-returns-in-Some
-three_fault-returns-in-Some g n c = stays _ _ _ (given _ _ _ c.in-Some.is c.two_fault.ensures)
+pub two_fault-returns : goal.two_fault-returns
+two_fault-returns g n c = first_in _ _ _ _ _ c.expression_fault.ensures c.expression_fault-2.ensures c.first_of.ensures
 
 pub three_fault-returns : goal.three_fault-returns
-three_fault-returns g n c = past _ _ _ (given _ _ _ c.in_default.is c.two_fault.ensures) c.expression_fault.ensures
+three_fault-returns g n c = first_in _ _ _ _ _ c.two_fault.ensures c.expression_fault.ensures c.first_of.ensures
 
-pub lambda_fault-returns-in-Some : goal.lambda_fault-returns-in-Some
-lambda_fault-returns-in-Some g n c =
+pub slice_fault-returns : goal.slice_fault-returns
+slice_fault-returns g n c =
+    first_in _ _ _ _ _ c.expression_fault.ensures
+    (first_in _ _ _ _ _ (first_in _ _ _ _ _ c.bound_fault.ensures c.bound_fault-2.ensures c.first_of-ends.ensures) c.bound_fault-3.ensures c.first_of.ensures)
+    c.first_of-2.ensures
+
+pub normal_fault-returns : goal.normal_fault-returns
+normal_fault-returns g n c = first_in _ _ _ _ _ c.type_fault.ensures c.bound_fault.ensures c.first_of.ensures
+
+pub for_clause_fault-returns : goal.for_clause_fault-returns
+for_clause_fault-returns g n c =
     let d = c.args.dialect.now in
-    stays _ _ _ (given _ _ _ c.in-Some.is (c.parameters_fault.ensures ∙ ap (λ q. first_finding (kept.kept_members d (members parameter_at q))) c.deref.ensures.value))
+    first_in _ _ _ _ _ c.target_fault.ensures c.expression_fault.ensures c.first_of.ensures
+    ∙ ap (λ q. first_finding (kept.kept_clauses d (tree.and_clause tree.no_clauses q))) (sym (view-for_clause c.args.x.now))
+
+pub dict_fault-returns : goal.dict_fault-returns
+dict_fault-returns g n c = first_in _ _ _ _ _ c.two_fault.ensures c.clauses_fault.ensures c.first_of.ensures
+
+pub list_fault-returns : goal.list_fault-returns
+list_fault-returns g n c = first_in _ _ _ _ _ c.expression_fault.ensures c.clauses_fault.ensures c.first_of.ensures
 
 pub lambda_fault-returns : goal.lambda_fault-returns
 lambda_fault-returns g n c =
     let d = c.args.dialect.now in
-    past _ _ _ (given _ _ _ c.in_default.is (c.parameters_fault.ensures ∙ ap (λ q. first_finding (kept.kept_members d (members parameter_at q))) c.deref.ensures.value))
+    first_in _ _ _ _ _
+    (c.parameters_fault.ensures ∙ ap (λ q. first_finding (kept.kept_members d (members parameter_at q))) c.deref.ensures.value)
     (c.expression_fault.ensures ∙ ap (λ y. first_finding (kept.kept_expr d (expr_at y))) c.deref-2.ensures)
-
-pub fstring_fault-returns-in-Some : goal.fstring_fault-returns-in-Some
-fstring_fault-returns-in-Some g n c =
-    let d = c.args.dialect.now in
-    stays _ _ _ (given _ _ _ c.in-Some.is (c.items_fault.ensures ∙ ap (λ q. first_finding (kept.kept_members d (items_of q))) c.deref.ensures.value))
+    c.first_of.ensures
 
 pub fstring_fault-returns : goal.fstring_fault-returns
 fstring_fault-returns g n c =
     let d = c.args.dialect.now in
-    past _ _ _ (given _ _ _ c.in_default.is (c.items_fault.ensures ∙ ap (λ q. first_finding (kept.kept_members d (items_of q))) c.deref.ensures.value))
+    first_in _ _ _ _ _
+    (c.items_fault.ensures ∙ ap (λ q. first_finding (kept.kept_members d (items_of q))) c.deref.ensures.value)
     (c.disabled_fault.ensures ∙ sym (first_listed _))
-
-pub whole_call_fault-returns-in-Some : goal.whole_call_fault-returns-in-Some
-whole_call_fault-returns-in-Some g n c = stays _ _ _ (stays _ _ _ (given _ _ _ c.in-Some.is c.expression_fault.ensures))
-
-pub whole_call_fault-returns-in-Some-arguments_fault : goal.whole_call_fault-returns-in-Some-arguments_fault
-whole_call_fault-returns-in-Some-arguments_fault g n c =
-    stays _ _ _ (past _ _ _ (given _ _ _ c.in_default.is c.expression_fault.ensures) (given _ _ _ c.in-Some-arguments_fault.is c.arguments_fault.ensures))
+    c.first_of.ensures
 
 pub whole_call_fault-returns : goal.whole_call_fault-returns
 whole_call_fault-returns g n c =
-    past _ _ _ (past _ _ _ (given _ _ _ c.in_default.is c.expression_fault.ensures) (given _ _ _ c.in_default-arguments_fault.is c.arguments_fault.ensures)) (c.call_fault.ensures ∙ sym (first_listed _))
+    first_in _ _ _ _ _ (first_in _ _ _ _ _ c.expression_fault.ensures c.arguments_fault.ensures c.first_of.ensures) (c.call_fault.ensures ∙ sym (first_listed _)) c.first_of-2.ensures
 
 -- ---- an expression: less in its parts
 

@@ -1,7 +1,0 @@
-use Rattle.std.proofs.Common.{◌≡◌, ◌+◌, ◌-◌, take, length, count_by}
-use Rattle.starlark_ast.specs.View.{argument_at}
-use Rattle.starlark_rules.specs.Unpacked as unpacked
-use Rattle.starlark_rules.proofs.arguments.positional_count.Given as goal
-
-abbrev pub invariant-loop-x : goal.invariant-loop-x
-invariant-loop-x g l = l.count ≡ count_by (λ x. unpacked.is_positional (argument_at x)) (take l.x-index l.args) + (length l.args - l.x-index)
