@@ -1,7 +1,6 @@
 //! Reads a text off standard input, and prints it as its tree stands, or why it is refused.
 
 use starlark_lexer::dialect::Dialect;
-use starlark_parser::fault::EvalException;
 use starlark_parser::module::AstModule;
 use starlark_place::codemap::CodeMapId;
 use std::io::Read;
@@ -12,9 +11,7 @@ pub(crate) fn show(rt: &HostRuntime) -> Result<(), anyhow::Error> {
     rt.stdin().read_to_string(&mut text)?;
     match AstModule::parse(alloc, CodeMapId(1), "BUILD", text, dialect) {
         Ok(module) => print!(rt; "{}", module.statement().node)?,
-        Err(EvalException::Fault(fault)) => println!(rt; "{fault}")?,
-        Err(EvalException::TooLong) => println!(rt; "the text is too long")?,
-        Err(EvalException::Memory) => println!(rt; "out of memory")?,
+        Err(refused) => println!(rt; "{refused}")?,
     }
     Ok(())
 }

@@ -55,14 +55,17 @@ impl ParserError {
     }
 }
 
-/// Why no module is made of a text.
-#[derive(Debug, Drop)]
+/// Why no module is made of a text. A fault prints its reason and where it stands.
+#[derive(Debug, Drop, Error)]
 pub enum EvalException {
     /// It has more than `u32::MAX` bytes. This is looked at first.
+    #[error("the text is too long")]
     TooLong,
     /// It is not in the language: why, and where.
+    #[error("{0}")]
     Fault(WithDiagnostic<ParserError>),
     /// Memory ran out.
+    #[error("out of memory")]
     Memory,
 }
 

@@ -18,7 +18,7 @@ use starlark_read::cost::Cost;
 use starlark_read::told::Comments;
 use std::alloc::{AllocError, Global};
 
-/// A text that is in the language, with its tree.
+/// A text that is in the language, with its tree, in which `replace_binary_operators` may have put calls.
 #[derive(Debug)]
 pub struct AstModule {
     pub(crate) codemap: CodeMap,
@@ -55,8 +55,9 @@ impl AstModule {
     ghost use Rattle.starlark_parser.specs.Suppressions.{is_suppressed};
 
     /// The module of a text under a name. A text of more than `u32::MAX` bytes is `TooLong`, which is looked at first. A
-    /// text that is not in the language is refused for the first reason from the left: docs/LANGUAGE.md, Refusals.
-    /// `Memory` is answered where memory, or one more owner of shared data, cannot be had.
+    /// text that is not in the language is refused for one reason: the first from the left of the lexer's fault, a token
+    /// that cannot stand and the rules that break at once, or else the first of the other rules in their own order
+    /// (docs/LANGUAGE.md, Refusals). `Memory` is answered where memory, or one more owner of shared data, cannot be had.
     pub fn parse(
         alloc: Global,
         id: CodeMapId,
@@ -76,7 +77,7 @@ impl AstModule {
     }
 
     /// The same as `parse`, and what the reading took. Nothing is asked for behind the first fault of the lexer. Where
-    /// memory runs out the cost is what was spent until then, which is no more than a text of that length takes.
+    /// memory runs out the cost is of what was read until then, and no more than a text of that length takes.
     pub fn parse_counted(
         alloc: Global,
         id: CodeMapId,
