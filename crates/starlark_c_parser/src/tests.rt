@@ -17,13 +17,35 @@ const PLAIN: Switches = Switches {
     enable_f_strings: false,
 };
 
+/// All that a text may use.
+const ALL: Switches = Switches {
+    enable_def: true,
+    enable_lambda: true,
+    enable_load: true,
+    enable_keyword_only_arguments: true,
+    enable_positional_only_arguments: true,
+    enable_types: true,
+    enable_top_level_stmt: true,
+    enable_f_strings: true,
+};
+
+/// Texts, and whether they are taken. Refused are a rule that is broken, a token that cannot stand, a fault of the lexer.
+static TEXTS: [(&str, Switches, bool); 6] = [
+    ("x = 1\n", PLAIN, true),
+    ("x: int = 1\n", PLAIN, false),
+    ("x = )\n", PLAIN, false),
+    ("x = $\n", PLAIN, false),
+    ("x: int = f\"{y}\"\nif x: pass\n", ALL, true),
+    ("", ALL, true),
+];
+
 #[test]
 fn texts(rt: HostRuntime) {
-    let mut taken = false;
-    assert!(rt; starlark_c_parser_parse(rt.alloc(), b"x = 1\n", &PLAIN, &mut taken));
-    assert!(rt; taken);
-    assert!(rt; starlark_c_parser_parse(rt.alloc(), b"x: int = 1\n", &PLAIN, &mut taken));
-    assert!(rt; !taken);
+    for (text, switches, wanted) in &TEXTS {
+        let mut taken = !*wanted;
+        assert!(rt; starlark_c_parser_parse(rt.alloc(), text.as_bytes(), switches, &mut taken));
+        assert_eq!(rt; taken, *wanted);
+    }
 }
 
 // whether a tree is kept, which goes

@@ -70,8 +70,8 @@ static CASES: [(&[u8], &[u8], End, u8); 40] = [
     ),
     // escaped_end
     (
-        b"insert 0 8\nx = 1 \\\ninsert 0 6\n# c \\\n",
-        b"refused open\nrefused open\n",
+        b"insert 0 8\nx = 1 \\\ninsert 0 6\n# c \\\ninsert 0 9\nx = 1 \\\r\n",
+        b"refused open\nrefused open\nrefused open\n",
         End::Whole,
         0,
     ),

@@ -12,15 +12,20 @@ use std::io::{Read, Write};
 /// The number of no call.
 pub(crate) const NEVER: usize = usize::MAX;
 
-fn failure() -> io::Error {
-    io::Error::from(io::ErrorKind::BrokenPipe)
+/// How the call of that number fails: each other one with the kind behind which std tries again.
+fn failure(call: usize) -> io::Error {
+    if call % 2 == 0 {
+        io::Error::from(io::ErrorKind::BrokenPipe)
+    } else {
+        io::Error::from(io::ErrorKind::Interrupted)
+    }
 }
 
-/// The call fails as the device does.
-fn fails<T: Drop>(answer: io::Result<T>) -> bool {
+/// The call fails as the device does at the call of that number.
+fn fails<T: Drop>(answer: io::Result<T>, call: usize) -> bool {
     match answer {
         Ok(_) => false,
-        Err(error) => error.kind() == io::ErrorKind::BrokenPipe,
+        Err(error) => error.kind() == failure(call).kind(),
     }
 }
 
@@ -39,7 +44,7 @@ impl<'a> Read for Single<'a> {
         let call = self.calls;
         self.calls = call.saturating_add(1);
         if call == self.fails_at {
-            return Err(failure());
+            return Err(failure(call));
         }
         if buf.is_empty() || self.rest.is_empty() {
             return Ok(0);
@@ -88,20 +93,21 @@ impl Write for Tight {
     fn write(&mut self, buf: &[u8]) -> io::Result<usize> {
         let call = self.call();
         if call == self.fails_at {
-            return Err(failure());
+            return Err(failure(call));
         }
         if call == self.stalls_at || buf.is_empty() {
             return Ok(0);
         }
         match self.taken.push(buf[0]) {
             Ok(()) => Ok(1),
-            Err(_) => Err(failure()),
+            Err(_) => Err(failure(call)),
         }
     }
 
     fn flush(&mut self) -> io::Result<()> {
-        if self.call() == self.fails_at {
-            return Err(failure());
+        let call = self.call();
+        if call == self.fails_at {
+            return Err(failure(call));
         }
         Ok(())
     }
@@ -284,7 +290,7 @@ fn watched_reader(rt: HostRuntime) {
     );
     holds(
         &rt,
-        fails(reader.pull(&mut buffer)) && Source::failed(&reader),
+        fails(reader.pull(&mut buffer), 3) && Source::failed(&reader),
     );
     holds(
         &rt,
@@ -304,7 +310,7 @@ fn watched_writer(rt: HostRuntime) {
     );
     holds(
         &rt,
-        !Sink::failed(&writer) && fails(writer.put(b"b")) && Sink::failed(&writer),
+        !Sink::failed(&writer) && fails(writer.put(b"b"), 3) && Sink::failed(&writer),
     );
     holds(
         &rt,
@@ -320,7 +326,7 @@ fn watched_writer(rt: HostRuntime) {
 #[test]
 fn watched_flush(rt: HostRuntime) {
     let mut writer = Watched::new(Tight::new(&rt, 0, NEVER));
-    holds(&rt, fails(writer.flush()) && Sink::failed(&writer));
+    holds(&rt, fails(writer.flush(), 0) && Sink::failed(&writer));
     equal(&rt, writer.into_inner().calls, 1);
 }
 
@@ -353,7 +359,7 @@ fn watched_failures(rt: HostRuntime) {
     });
     holds(
         &rt,
-        fails(reader.read(&mut [0u8; 2])) && Source::failed(&reader),
+        fails(reader.read(&mut [0u8; 2]), 0) && Source::failed(&reader),
     );
     equal(&rt, reader.into_inner().calls, 1);
     let mut writer = Watched::new(Tight::new(&rt, 1, 0));
@@ -361,28 +367,74 @@ fn watched_failures(rt: HostRuntime) {
         &rt,
         matches!(writer.write(b"ab"), Ok(0)) && !Sink::failed(&writer),
     );
-    holds(&rt, fails(writer.write(b"ab")) && Sink::failed(&writer));
+    holds(&rt, fails(writer.write(b"ab"), 1) && Sink::failed(&writer));
     equal(&rt, writer.into_inner().calls, 2);
 }
 
 /// Where a call of std is made of several, a failure of one of them is kept in mind, and it is the last.
 #[test]
 fn watched_several(rt: HostRuntime) {
-    let script: &[u8] = b"ab";
+    let script: &[u8] = b"abc";
     let mut reader = Watched::new(Single {
         rest: script,
-        fails_at: 1,
+        fails_at: 2,
         calls: 0,
     });
     holds(
         &rt,
-        reader.read_exact(&mut [0u8; 2]).is_err() && Source::failed(&reader),
+        reader.read_exact(&mut [0u8; 3]).is_err() && Source::failed(&reader),
     );
-    equal(&rt, reader.into_inner().calls, 2);
-    let mut writer = Watched::new(Tight::new(&rt, 1, NEVER));
+    equal(&rt, reader.into_inner().calls, 3);
+    let mut writer = Watched::new(Tight::new(&rt, 2, NEVER));
     holds(
         &rt,
-        writer.write_all(b"ab").is_err() && Sink::failed(&writer),
+        writer.write_all(b"abc").is_err() && Sink::failed(&writer),
     );
-    equal(&rt, writer.into_inner().calls, 2);
+    equal(&rt, writer.into_inner().calls, 3);
+}
+
+/// Fails at each call, and counts them.
+#[derive(Drop)]
+struct Broken {
+    calls: usize,
+}
+
+impl Broken {
+    fn call(&mut self) -> io::Error {
+        let call = self.calls;
+        self.calls = call.saturating_add(1);
+        failure(call)
+    }
+}
+
+impl Read for Broken {
+    fn read(&mut self, _buf: &mut [u8]) -> io::Result<usize> {
+        Err(self.call())
+    }
+}
+
+impl Write for Broken {
+    fn write(&mut self, _buf: &[u8]) -> io::Result<usize> {
+        Err(self.call())
+    }
+
+    fn flush(&mut self) -> io::Result<()> {
+        Err(self.call())
+    }
+}
+
+/// A call that fails behind one that failed is passed on once, too, and answers what it answers.
+#[test]
+fn watched_again(rt: HostRuntime) {
+    let mut reader = Watched::new(Broken { calls: 0 });
+    holds(&rt, fails(reader.read(&mut [0u8; 2]), 0));
+    holds(&rt, fails(reader.read(&mut [0u8; 2]), 1));
+    holds(&rt, fails(reader.pull(&mut [0u8; 2]), 2));
+    equal(&rt, reader.into_inner().calls, 3);
+    let mut writer = Watched::new(Broken { calls: 0 });
+    holds(&rt, fails(writer.write(b"a"), 0));
+    holds(&rt, fails(writer.write(b"a"), 1));
+    holds(&rt, fails(writer.put(b"a"), 2));
+    holds(&rt, fails(writer.flush(), 3));
+    equal(&rt, writer.into_inner().calls, 4);
 }

@@ -65,6 +65,15 @@ fn edited(rt: &impl Abort, parts: &mut Parts) -> Result<(), Fail> {
         parts.text()?.as_str(),
         "a = 2\n\n# c\ndef f():\n  pass\nf(1)\n",
     );
+    is_outline(
+        rt,
+        parts,
+        &[
+            (Word::Assign, 0, 0),
+            (Word::Def, 3, 0),
+            (Word::Expression, 5, 0),
+        ],
+    )?;
     parts.move_part(0, 2)?;
     is_outline(
         rt,
@@ -184,20 +193,27 @@ fn counted(rt: &impl Abort, parts: &mut Parts) -> Result<(), Fail> {
 }
 
 /// How often the lexer is asked of a text, and how many looks that takes.
-static COSTS: [(&str, u64); 4] = [
-    ("def f(x):\n  return [x, 1.5, \"a\"] # c\n", 21),
+static COSTS: [(Dialect, &str, u64); 6] = [
+    (
+        Dialect::Standard,
+        "def f(x):\n  return [x, 1.5, \"a\"] # c\n",
+        21,
+    ),
     // it is not closed
-    ("x = 1", 5),
+    (Dialect::Standard, "x = 1", 5),
     // a token that is refused, and a rule that is broken, before comments
-    ("x = ) # c\n", 3),
-    ("1 = 2 ) # c\n", 4),
+    (Dialect::Standard, "x = ) # c\n", 3),
+    (Dialect::Standard, "1 = 2 ) # c\n", 4),
+    // what only other dialects have
+    (Dialect::Extended, "if x: pass\n", 7),
+    (Dialect::AllOptionsInternal, "f\"{x}\"\n", 8),
 ];
 
 /// What an edit tells is what its text takes from the lexer, whether it is taken or refused.
 #[test]
 fn costs_of_a_text(rt: HostRuntime) -> Result<(), Fail> {
-    for (text, asks) in &COSTS {
-        let mut parts = Parts::new(rt.alloc(), &Dialect::Standard);
+    for (dialect, text, asks) in &COSTS {
+        let mut parts = Parts::new(rt.alloc(), dialect);
         holds(
             &rt,
             !matches!(parts.insert(0, text.as_bytes()), Err(PartFault::Memory)),
@@ -210,7 +226,7 @@ fn costs_of_a_text(rt: HostRuntime) -> Result<(), Fail> {
             String::from_str(rt.alloc(), "t")?,
             String::from_str(rt.alloc(), text)?,
         )?;
-        let mut lexer = Lexer::new(rt.alloc(), text, &Dialect::Standard, map);
+        let mut lexer = Lexer::new(rt.alloc(), text, dialect, map);
         for _ in 0..*asks {
             let _ = lexer.next();
         }
@@ -225,4 +241,24 @@ fn costs_of_edits(rt: HostRuntime) -> Result<(), Fail> {
     let done = counted(&rt, &mut parts);
     parts.release();
     done
+}
+
+/// Each word, and how it is written.
+static WORDS: [(Word, &str); 8] = [
+    (Word::Def, "def"),
+    (Word::Load, "load"),
+    (Word::Assign, "assign"),
+    (Word::Modify, "modify"),
+    (Word::If, "if"),
+    (Word::For, "for"),
+    (Word::Expression, "expression"),
+    (Word::Pass, "pass"),
+];
+
+#[test]
+fn words(rt: HostRuntime) -> Result<(), Fail> {
+    for (word, wanted) in &WORDS {
+        equal(&rt, word.to_string(rt.alloc())?.as_str(), *wanted);
+    }
+    Ok(())
 }
