@@ -3,7 +3,7 @@
 use crate::check::{count, equal, holds};
 use crate::common::span;
 use crate::maker::Maker;
-use starlark_parser::ast::ast::{ExprP, StmtP};
+use starlark_parser::ast::ast::{AstPayload, ExprP, StmtP};
 use starlark_parser::fields::AstModuleFields;
 use starlark_parser::rules::arguments::CallArgsUnpack;
 use starlark_parser::rules::call::call_fault;
@@ -100,6 +100,66 @@ fn stretches(rt: HostRuntime) {
     equal(&rt, found.indices.pos_only(), 0..1);
     equal(&rt, found.indices.pos_or_named(), 1..2);
     equal(&rt, found.indices.named_only(found.params.len()), 2..3);
+}
+
+/// Parameters, and how many of them have a name.
+static PARAMETERS: [(&str, usize); 3] = [
+    ("def f(): pass", 0),
+    ("def f(a): pass", 1),
+    ("def f(*, a): pass", 1),
+];
+
+#[test]
+fn few_parameters(rt: HostRuntime) {
+    let m = Maker::new(&rt, rt.alloc());
+    for (text, named) in &PARAMETERS {
+        let module = m.parsed(text);
+        let StmtP::Def(def) = &module.statement().node else {
+            panic!(rt; "it has another form")
+        };
+        if parameter_fault(&def.params).is_some() {
+            panic!(rt; "they break a rule")
+        }
+        let found = m.made(DefParams::unpack(rt.alloc(), &def.params, module.codemap()));
+        count(&rt, found.params.len(), *named);
+    }
+}
+
+/// Types, and how many types each is made of. One that is none of several has 0.
+static TYPES: [(&str, usize); 8] = [
+    ("int", 0),
+    ("a.b", 0),
+    ("...", 0),
+    ("()", 0),
+    ("(a, b)", 2),
+    ("[a, b, c]", 3),
+    ("a | b", 2),
+    ("a_name_that_is_as_long_as_names_of_types_are_at_most", 0),
+];
+
+/// How many types stand right in it.
+fn members<P: AstPayload>(ty: &TypeExprUnpackP<'_, P>) -> usize {
+    match ty {
+        TypeExprUnpackP::Union(members) => members.len(),
+        TypeExprUnpackP::Tuple(members) => members.len(),
+        _ => 0,
+    }
+}
+
+#[test]
+fn types_of_each_form(rt: HostRuntime) {
+    let m = Maker::new(&rt, rt.alloc());
+    for (text, wanted) in &TYPES {
+        let module = m.parsed(text);
+        let StmtP::Expression(ty) = &module.statement().node else {
+            panic!(rt; "it has another form")
+        };
+        if m.made(type_fault(rt.alloc(), ty)).is_some() {
+            panic!(rt; "it breaks a rule")
+        }
+        let found = m.made(TypeExprUnpackP::unpack(rt.alloc(), ty, module.codemap()));
+        count(&rt, members(&found.node), *wanted);
+    }
 }
 
 /// The type `list[str]`.

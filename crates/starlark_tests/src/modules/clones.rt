@@ -8,7 +8,7 @@ use starlark_ast::ast::{AstStmt, ExprP, StmtP};
 use starlark_clone::clone_tree::CloneTree;
 
 /// Expressions of each form.
-static EXPRESSIONS: [&str; 14] = [
+static EXPRESSIONS: [&str; 30] = [
     "[(), (1, 2), [3, 0x80000000], {4: 5.5, \"a\": \"b\"}]",
     "a.b[c](d, e = f, *g, **h)[i, j][k:l:m][:]",
     "not a and -b + +c * ~d or (... if e else f)",
@@ -23,6 +23,22 @@ static EXPRESSIONS: [&str; 14] = [
     "[]",
     "{}",
     "lambda: a",
+    "a",
+    "1",
+    "...",
+    "\"a\"",
+    "()",
+    "(a, b)",
+    "a.b",
+    "a[b]",
+    "a[b, c]",
+    "a[b:]",
+    "a + b",
+    "not a",
+    "-a",
+    "+a",
+    "~a",
+    "a if b else c",
 ];
 
 #[test]
@@ -38,11 +54,15 @@ fn clones_of_expressions(rt: HostRuntime) {
     }
 }
 
+/// Arguments, parameters, clauses and targets of each form.
+const PARTS: &str =
+    "f(lambda a, /, b = 1, *c, d, **e: a, lambda *, a: a, x = [a for b in c if d for e in g], *[a for (b, c) in d], **[a for b[0] in c for d.e in b])";
+
 #[test]
 fn clones_of_parts(rt: HostRuntime) {
     let alloc = rt.alloc();
     let m = Maker::new(&rt, alloc);
-    let module = m.parsed("f(lambda a, b = 1: a, x = [a for b in c if d])");
+    let module = m.parsed(PARTS);
     let StmtP::Expression(x) = &module.statement().node else {
         panic!(rt; "it has another form")
     };
@@ -73,7 +93,7 @@ fn clones_of_parts(rt: HostRuntime) {
 }
 
 /// Statements of each form.
-static STATEMENTS: [&str; 8] = [
+static STATEMENTS: [&str; 16] = [
     "load(\"m\", \"a\", b = \"c\",)\nx = 1; y: list[int] = 2\nz.w += 3\nv[0], [u, (t)] = s\n",
     "load(\"m\", \"a\")\nload(\"m\", \"a\", b = \"c\")\n",
     "a -= b; a *= b; a /= b; a //= b; a %= b; a &= b; a |= b; a ^= b; a <<= b; a >>= b\n",
@@ -82,6 +102,14 @@ static STATEMENTS: [&str; 8] = [
     "f\"x{a}y{b}\"\n",
     "def a(): pass",
     "",
+    "pass",
+    "a += b",
+    "load(\"m\", \"a\")",
+    "if a: b",
+    "if a: b\nelse: c",
+    "def f(): return",
+    "for a in b: break",
+    "for a in b: continue",
 ];
 
 #[test]
@@ -93,8 +121,14 @@ fn clones_of_statements(rt: HostRuntime) {
         let tree = &module.statement().node;
         m.copied(tree.clone(alloc), tree);
         match tree {
-            StmtP::Def(x) => m.copied(x.clone(alloc), x),
-            StmtP::For(x) => m.copied(x.clone(alloc), x),
+            StmtP::Def(x) => {
+                m.copied(x.clone(alloc), x);
+                m.copied(x.body.node.clone(alloc), &x.body.node);
+            }
+            StmtP::For(x) => {
+                m.copied(x.clone(alloc), x);
+                m.copied(x.body.node.clone(alloc), &x.body.node);
+            }
             StmtP::Expression(x) => {
                 let ExprP::FString(x) = &x.node else {
                     panic!(rt; "it has another form")

@@ -26,6 +26,18 @@ fn modules(rt: HostRuntime) {
     holds(&rt, matches!(module.statement().node, StmtP::Statements(_)));
 }
 
+/// What is answered in the place of a module prints the fault and its place, or that there is none.
+#[test]
+fn exceptions(rt: HostRuntime) {
+    let m = &Maker::new(&rt, rt.alloc());
+    let Err(refused) = parse(m, rt.alloc(), "x = )") else {
+        panic!(rt; "it is taken")
+    };
+    m.prints(&refused, "unexpected token: t:1:5-6");
+    m.prints(&EvalException::TooLong, "the text is too long");
+    m.prints(&EvalException::Memory, "out of memory");
+}
+
 /// Texts that are refused, what the refusal prints, and its kind.
 static REFUSED: [(&str, &str, ParserErrorKind); 4] = [
     (

@@ -79,15 +79,16 @@ fn targets(rt: HostRuntime) {
     leave(target);
 }
 
-/// An assignment that breaks no rule.
+/// An assignment of 1 that breaks no rule.
 fn taken(
     rt: &impl Abort,
     m: &Maker<'_, impl Abort>,
     map: &CodeMap,
+    left: &str,
     ty: Option<Box<AstTypeExpr>>,
     op: Option<AssignOp>,
 ) -> Stmt {
-    let left = expression(m, "x");
+    let left = expression(m, left);
     let right = expression(m, "1");
     holds(rt, assignment_fault(&left, &ty, op).is_none());
     m.made(check_assignment(m.alloc(), map, left, ty, op, right))
@@ -97,7 +98,7 @@ fn taken(
 fn assignments(rt: HostRuntime) {
     let m = &Maker::new(&rt, rt.alloc());
     let map = m.map_of(0, "t", "x = 1");
-    let tree = taken(&rt, m, &map, None, None);
+    let tree = taken(&rt, m, &map, "x", None, None);
     let StmtP::Assign(made) = &tree else {
         panic!(rt; "it is no assignment")
     };
@@ -111,7 +112,33 @@ fn assignments(rt: HostRuntime) {
 fn change(rt: HostRuntime) {
     let m = &Maker::new(&rt, rt.alloc());
     let map = m.map_of(0, "t", "x += 1");
-    m.printed(taken(&rt, m, &map, None, Some(AssignOp::Add)), "x += 1\n");
+    let op = Some(AssignOp::Add);
+    m.printed(taken(&rt, m, &map, "x", None, op), "x += 1\n");
+}
+
+/// Targets of each form, and what they and an assignment to them print.
+static TARGETS: [(&str, &str, &str); 4] = [
+    ("a.b", "a.b", "a.b = 1\n"),
+    ("a[b]", "a[b]", "a[b] = 1\n"),
+    ("(a, b)", "(a, b)", "(a, b) = 1\n"),
+    (
+        "a_name_that_is_as_long_as_names_of_targets_of_build_rules_are_at_most",
+        "a_name_that_is_as_long_as_names_of_targets_of_build_rules_are_at_most",
+        "a_name_that_is_as_long_as_names_of_targets_of_build_rules_are_at_most = 1\n",
+    ),
+];
+
+#[test]
+fn targets_of_each_form(rt: HostRuntime) {
+    let m = &Maker::new(&rt, rt.alloc());
+    let map = m.map_of(0, "t", "");
+    for (text, target, assignment) in &TARGETS {
+        let left = expression(m, text);
+        holds(&rt, target_fault(&left).is_none());
+        let made = m.made(check_assign(rt.alloc(), &map, left));
+        m.printed(made.node, target);
+        m.printed(taken(&rt, m, &map, text, None, None), assignment);
+    }
 }
 
 /// The type `int`, which stands there in `x: int = 1`.
@@ -126,7 +153,8 @@ fn int(m: &Maker<'_, impl Abort>) -> Option<Box<AstTypeExpr>> {
 fn assignment_with_type(rt: HostRuntime) {
     let m = &Maker::new(&rt, rt.alloc());
     let map = m.map_of(0, "t", "x: int = 1");
-    m.printed(taken(&rt, m, &map, int(m), None), "x : int = 1\n");
+    let ty = int(m);
+    m.printed(taken(&rt, m, &map, "x", ty, None), "x : int = 1\n");
 }
 
 /// The rule of a refusal, which stands there.
