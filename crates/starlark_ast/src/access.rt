@@ -162,7 +162,7 @@ fn merged_with<T>(first: Span, others: &[Spanned<T>]) -> Span
 }
 
 impl<P: AstPayload> LambdaP<P> {
-    /// From the first parameter to the last, or the body's span where there is none.
+    /// From the least beginning of a parameter to the greatest end, or the body's span where there is none.
     pub fn signature_span(&self) -> Span
         ensures { result ≡ lambda_signature self.now }
     {
@@ -174,7 +174,7 @@ impl<P: AstPayload> LambdaP<P> {
 }
 
 impl<P: AstPayload> DefP<P> {
-    /// The spans of the name, the parameters and the type of what is returned.
+    /// From the least beginning to the greatest end of the name, the parameters and the type of what is returned.
     pub fn signature_span(&self) -> Span
         ensures { result ≡ def_signature self.now }
     {
@@ -187,7 +187,7 @@ impl<P: AstPayload> DefP<P> {
 }
 
 impl<P: AstPayload> LoadArgP<P> {
-    /// The spans of the local name and of the name in the other module.
+    /// From the lesser beginning to the greater end of the local name and the name in the other module.
     pub fn span(&self) -> Span
         ensures { result ≡ load_arg_span self.now }
     {

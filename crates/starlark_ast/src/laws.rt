@@ -18,7 +18,8 @@ pub fn operators_compare()
 pub fn names_compare<P: AstPayload + PartialEq>(x: &IdentP<P>, y: &IdentP<P>) -> bool
 where
     P::IdentPayload: PartialEq,
-    ensures { result ≡ (⟦<String as PartialEq>⟧.eq x.now.ident y.now.ident && P.IdentPayload.eq x.now.payload y.now.payload) }
+    ensures equal { result ≡ ⟦<IdentP<P> as PartialEq>⟧.eq x.now y.now }
+    ensures parts { result ≡ (⟦<String as PartialEq>⟧.eq x.now.ident y.now.ident && P.IdentPayload.eq x.now.payload y.now.payload) }
 {
     *x == *y
 }
@@ -30,7 +31,8 @@ pub fn assigned_names_compare<P: AstPayload + PartialEq>(
 ) -> bool
 where
     P::IdentAssignPayload: PartialEq,
-    ensures { result ≡ (⟦<String as PartialEq>⟧.eq x.now.ident y.now.ident && P.IdentAssignPayload.eq x.now.payload y.now.payload) }
+    ensures equal { result ≡ ⟦<AssignIdentP<P> as PartialEq>⟧.eq x.now y.now }
+    ensures parts { result ≡ (⟦<String as PartialEq>⟧.eq x.now.ident y.now.ident && P.IdentAssignPayload.eq x.now.payload y.now.payload) }
 {
     *x == *y
 }

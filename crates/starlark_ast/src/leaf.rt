@@ -68,7 +68,7 @@ impl AstLiteral {
 }
 
 impl IdentP<AstNoPayload> {
-    /// The same identifier, with a text of its own. `Err` comes only where memory lacks for that.
+    /// The same identifier, with a text of its own. It is refused where memory runs out.
     pub fn clone(&self, alloc: Global) -> Result<IdentP<AstNoPayload>, AllocError>
         ensures { IfOk result (λ x. string_bytes x.ident ≡ string_bytes self.now.ident) }
     {
@@ -78,7 +78,7 @@ impl IdentP<AstNoPayload> {
 }
 
 impl AssignIdentP<AstNoPayload> {
-    /// The same identifier, with a text of its own. `Err` comes only where memory lacks for that.
+    /// The same identifier, with a text of its own. It is refused where memory runs out.
     pub fn clone(&self, alloc: Global) -> Result<AssignIdentP<AstNoPayload>, AllocError>
         ensures { IfOk result (λ x. string_bytes x.ident ≡ string_bytes self.now.ident) }
     {
@@ -101,7 +101,7 @@ fn comma(x: &Option<Spanned<Comma>>) -> Option<Spanned<Comma>>
 }
 
 impl LoadArgP<AstNoPayload> {
-    /// The same symbol, with texts of its own. `Err` comes only where memory lacks for these.
+    /// The same symbol, with texts of its own. It is refused where memory runs out.
     pub fn clone(&self, alloc: Global) -> Result<LoadArgP<AstNoPayload>, AllocError>
         ensures local { IfOk result (λ x. ident_at x.local ≡ ident_at self.now.local) }
         ensures their { IfOk result (λ x. text_at x.their ≡ text_at self.now.their) }
@@ -119,7 +119,7 @@ impl LoadArgP<AstNoPayload> {
 }
 
 impl LoadP<AstNoPayload> {
-    /// The same load, with a list and texts of its own. `Err` comes only where memory lacks for these.
+    /// The same load, with a list and texts of its own. It is refused where memory runs out.
     pub fn clone(&self, alloc: Global) -> Result<LoadP<AstNoPayload>, AllocError>
         ensures { IfOk result (λ x. (s : Extent) → load_view x s ≡ load_view self.now s) }
     {

@@ -39,7 +39,7 @@ pub fn statements(xs: Vec<AstStmt>, begin: usize, end: usize) -> AstStmt
 }
 
 /// The statements of a tree at its top, in order: those of a list in its place, also of one in another, and any other itself.
-/// `Err` comes only where memory lacks for the answer's list.
+/// It is refused where memory runs out for the answer's list.
 pub fn top_level_stmts<P: AstPayload>(
     alloc: Global,
     top: &AstStmtP<P>,

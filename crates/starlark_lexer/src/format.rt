@@ -70,7 +70,7 @@ pub enum FormatErrorKind {
     Standalone,
     /// A capture that meets an opening brace or the end.
     Unmatched,
-    /// Something other than `s` or `r` behind a `!`.
+    /// Something other than `s` or `r` behind a `!`, or nothing.
     Conversion,
 }
 

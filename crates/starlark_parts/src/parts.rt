@@ -222,6 +222,6 @@ impl Parts {
         Ok(text)
     }
 
-    /// Lets all parts and their memory go, in the crate that proves how.
+    /// Lets all parts go, as a drop does. Where a crate calls this, it need not prove how (docs/USING.md).
     pub fn release(self) {}
 }

@@ -9,7 +9,7 @@ use std::simd::prelude::*;
 // the bytes of a block
 const LANES: usize = 32;
 
-/// The number of characters of a text, as bytes: of its bytes that go on with no character before them.
+/// The number of characters of a text that is given as bytes: of those that go on with no character before them.
 pub(crate) fn char_count(text: &[u8]) -> usize
     ensures { result ≡ characters text.now }
 {

@@ -20,7 +20,8 @@ pub fn intersects_both_ways()
     ensures { (s t : Extent) → Intersects s t ↔ Intersects t s }
 {}
 
-/// Of two places of a text the earlier has no greater line and column, and a smaller one where a character begins there.
+/// Of two places of a text the later has a greater line, or the same line and no smaller column; and a greater column
+/// there where a character begins at the earlier.
 pub fn resolving_keeps_order()
     ensures weak { (text : List ℕ) (i j : ℕ) → i ≤ j → IsAtMost (resolved text i) (resolved text j) }
     ensures strict { (text : List ℕ) (i j : ℕ) → i < j → j ≤ length text → is_continuation (slice_index text i) ≡ false → IsBefore (resolved text i) (resolved text j) }

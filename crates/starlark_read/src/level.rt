@@ -39,5 +39,5 @@ pub(crate) const OR: u8 = 11;
 /// Any expression: a lambda, a choice by `if`.
 pub(crate) const TEST: u8 = 12;
 
-/// What stands behind every expression.
+/// Where no suffix and no operator goes on.
 pub(crate) const NONE: u8 = 13;

@@ -34,7 +34,7 @@ pub trait VisitExpr<P: AstPayload> {
         lend_always(self, f)
     }
 
-    /// The same, by the name that it has for statements.
+    /// The same as `visit_expr_err`, by its other name.
     final fn visit_expr_result<E, F: FnMut(&AstExprP<P>) -> Result<(), E>>(
         &self,
         f: &mut F,
