@@ -59,8 +59,8 @@ fn by_kind<'a, P: AstPayload>(args: &'a [AstArgumentP<P>]) -> CallArgsUnpack<'a,
     CallArgsUnpack {
         pos,
         named,
-        star: first_of(args, ArgumentKind::Args),
-        star_star: first_of(args, ArgumentKind::KwArgs),
+        star: first_with(args, ArgumentKind::Args),
+        star_star: first_with(args, ArgumentKind::KwArgs),
     }
 }
 
@@ -84,7 +84,10 @@ pub(crate) fn less_if(count: usize, less: bool) -> usize
 }
 
 /// The first of a kind.
-fn first_of<P: AstPayload>(args: &[AstArgumentP<P>], kind: ArgumentKind) -> Option<&AstArgumentP<P>>
+fn first_with<P: AstPayload>(
+    args: &[AstArgumentP<P>],
+    kind: ArgumentKind,
+) -> Option<&AstArgumentP<P>>
     ensures { lent_argument result ≡ first_that (λ x. is_of kind (argument_at x)) args.now }
 {
     for x in args {

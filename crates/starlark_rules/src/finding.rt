@@ -29,10 +29,7 @@ pub(crate) fn broken_if(is_broken: bool, rule: Rule, span: Span) -> Option<Spann
 pub(crate) fn first_of(a: Option<Spanned<Rule>>, b: Option<Spanned<Rule>>) -> Option<Spanned<Rule>>
     ensures { maybe_finding result ≡ first (maybe_finding a) (maybe_finding b) }
 {
-    match a {
-        Some(found) => Some(found),
-        None => b,
-    }
+    a.or(b)
 }
 
 /// The refusal for what was found.

@@ -37,7 +37,7 @@ returns g c =
     record {
       pos = first.0;
       named = second.0;
-      star = c.first_of.ensures;
-      star_star = c.first_of-2.ensures;
+      star = c.first_with.ensures;
+      star_star = c.first_with-2.ensures;
       front = (rest, append_assoc pos named rest ∙ ap (λ q. pos ++ q) (sym c.split_at-2.ensures.by_index.0) ∙ sym c.split_at.ensures.by_index.0);
     }

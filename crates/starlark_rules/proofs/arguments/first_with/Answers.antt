@@ -2,7 +2,7 @@ use Rattle.std.proofs.Common.{◌∙◌, sym}
 use Rattle.starlark_ast.specs.View.{argument_at}
 use Rattle.starlark_rules.specs.ArgumentKinds.{is_of}
 use Rattle.starlark_rules.proofs.Unpacking.{still_none, found_that}
-use Rattle.starlark_rules.proofs.arguments.first_of.Goals as goal
+use Rattle.starlark_rules.proofs.arguments.first_with.Goals as goal
 
 pub returns-then-is_of : goal.returns-then-is_of
 returns-then-is_of g c =
