@@ -19,7 +19,7 @@ use Rattle.starlark_rules.specs.ParameterKinds.{Param, param, params_before, par
 use Rattle.starlark_rules.specs.Tallies.{tally_of, with_member, kind_in, param_of}
 use Rattle.starlark_rules.proofs.Converting.{none_first, none_second}
 use Rattle.starlark_ast.proofs.Written.{members_more}
-use Rattle.starlark_rules.proofs.Prefixes.{count_members}
+use Rattle.starlark_faults.proofs.Prefixes.{count_members}
 
 one_more : {A : Type 0} (xs : List A) (x : A) → length (xs ++ (x ∷ [])) ≡ length xs + 1
 one_more xs x = length-append xs (x ∷ [])

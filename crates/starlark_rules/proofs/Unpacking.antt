@@ -16,7 +16,7 @@ use Rattle.starlark_rulebook.specs.Calls.{any, first_call_fault, argument_fault,
 use Rattle.starlark_rules.specs.Unpacked.{is_positional, is_named, only, first_that}
 use Rattle.starlark_rulebook.specs.Parameters.{member_count}
 use Rattle.starlark_rules.proofs.Converting.{none_first, none_second}
-use Rattle.starlark_rules.proofs.Prefixes.{count_members}
+use Rattle.starlark_faults.proofs.Prefixes.{count_members}
 
 -- some members and others behind them
 abbrev pub join : Members → Members → Members

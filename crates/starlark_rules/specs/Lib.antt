@@ -3,9 +3,7 @@ pub mod Assignable
 pub mod Forms
 pub mod Misfits
 pub mod Named
-pub mod Levels
 pub mod ParameterKinds
-pub mod Standings
 pub mod Tallies
 pub mod Unpacked
 pub mod Wildcards

@@ -7,9 +7,9 @@ ghost use Rattle.starlark_rules.specs.ArgumentKinds.{is_of};
 ghost use Rattle.starlark_rules.specs.Unpacked.{AreByKind, Unpacks, first_that, lent_argument};
 ghost use Rattle.starlark_rulebook.specs.View.{IsPlaced, RefusesFor};
 
-use crate::call::call_fault;
-use crate::finding::refused;
 use starlark_ast::ast::{ArgumentP, AstArgumentP, AstPayload, CallArgsP};
+use starlark_faults::call::call_fault;
+use starlark_faults::finding::refused;
 use starlark_place::codemap::CodeMap;
 use starlark_rulebook::rule::RuleException;
 use std::alloc::Global;

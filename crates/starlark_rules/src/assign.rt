@@ -9,7 +9,6 @@ ghost use Rattle.starlark_ast.specs.Views.{items_of, targets_of};
 ghost use Rattle.starlark_rulebook.specs.Targets as targets;
 ghost use Rattle.starlark_rulebook.specs.View.{IsPlaced, RefusesFor, maybe_finding};
 
-use crate::finding::{broken, refused};
 use starlark_ast::ast::{
     AssignIdentP, AssignOp, AssignP, AssignTargetP, AstAssignIdent, AstAssignTarget, AstExpr,
     AstExprP, AstIdent, AstPayload, AstString, AstTypeExpr, AstTypeExprP, Expr, ExprP, IdentP,
@@ -18,6 +17,7 @@ use starlark_ast::ast::{
 use starlark_clone::discard::{
     discard_expr, discard_exprs, discard_target, discard_targets, discard_type,
 };
+use starlark_faults::finding::{broken, refused};
 use starlark_place::codemap::CodeMap;
 use starlark_place::diagnostic::Refusal;
 use starlark_place::pos::Spanned;

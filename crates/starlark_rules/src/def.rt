@@ -10,11 +10,11 @@ ghost use Rattle.starlark_rules.specs.Named.{AreWithin, behind_args, lent_bound,
 ghost use Rattle.starlark_rulebook.specs.View.{IsPlaced, RefusesFor};
 
 use crate::arguments::less_if;
-use crate::finding::refused;
-use crate::parameters::parameter_fault;
 use starlark_ast::ast::{
     AstAssignIdentP, AstExprP, AstParameterP, AstPayload, AstTypeExprP, ParameterP,
 };
+use starlark_faults::finding::refused;
+use starlark_faults::parameters::parameter_fault;
 use starlark_place::codemap::CodeMap;
 use starlark_place::diagnostic::Refusal;
 use starlark_place::pos::{Span, Spanned};
@@ -119,8 +119,9 @@ impl DefParamIndices {
         self.num_positional_only as usize..self.num_positional as usize
     }
 
-    /// Those behind `*` or `*args` and before `**kwargs`, of `count` in all. `*args` and `**kwargs` are to stand in order
-    /// among so many, as in what `DefParams::unpack` gives, with the number of its parameters.
+    /// Those behind `*` or `*args` and before `**kwargs`, of `count` in all. These are to be at most 4294967295, the
+    /// positional ones no more than these, and `*args` and `**kwargs` among them, as in what `DefParams::unpack` gives,
+    /// with the number of its parameters.
     pub fn named_only(&self, count: usize) -> Range<usize>
         requires { AreWithin self.now count }
         ensures from { result.start ≡ behind_args self.now }

@@ -37,7 +37,8 @@ pub enum TypeExprUnpackP<'a, P: AstPayload> {
         Box<Spanned<TypeExprUnpackP<'a, P>>>,
         Box<Spanned<TypeExprUnpackP<'a, P>>>,
     ),
-    /// A list among the two arguments of an `Index2`, as in `typing.Callable[[int], str]`.
+    /// A list that is one of the two arguments of an `Index2`, as in `typing.Callable[[int], str]`, or stands in such a
+    /// list.
     List(Vec<Spanned<TypeExprUnpackP<'a, P>>>),
     /// `a | b`, or a list of two or more.
     Union(Vec<Spanned<TypeExprUnpackP<'a, P>>>),

@@ -60,7 +60,7 @@ impl From<AllocError> for Stop {
 #[derive(Clone, Copy)]
 pub(crate) enum Role {
     Alone,
-    /// In brackets behind a path, where a list may stand, too.
+    /// One of two in brackets behind a path, or in a list there: a list may stand there, too.
     Argument,
 }
 

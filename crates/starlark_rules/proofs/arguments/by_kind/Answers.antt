@@ -3,7 +3,7 @@ use Rattle.starlark_ast.specs.View.{argument_at, members}
 use Rattle.starlark_rulebook.specs.Calls.{is_star}
 use Rattle.starlark_rulebook.specs.Parameters.{member_count}
 use Rattle.starlark_rules.specs.Unpacked.{only, is_positional, is_named}
-use Rattle.starlark_rules.proofs.Prefixes.{count_members}
+use Rattle.starlark_faults.proofs.Prefixes.{count_members}
 use Rattle.starlark_rules.proofs.Unpacking.{join, are_arguments, in_order, cut, count_join, count_only, only_fewer}
 use Rattle.starlark_rules.proofs.arguments.by_kind.Goals as goal
 

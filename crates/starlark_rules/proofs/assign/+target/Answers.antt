@@ -4,7 +4,7 @@ use Rattle.starlark_ast.specs.View.{expr_at, expr_view}
 use Rattle.starlark_ast.specs.Views.{items_of, expr_view-Tuple, expr_view-List}
 use Rattle.starlark_rulebook.specs.Targets as targets
 use Rattle.starlark_rulebook.specs.View.{maybe_finding, finding_of}
-use Rattle.starlark_rules.proofs.Prefixes.{target_faults, still_clean, found_first}
+use Rattle.starlark_faults.proofs.Prefixes.{target_faults, still_clean, found_first}
 use Rattle.starlark_rules.proofs.assign.+target.Goals as goal
 
 pub target_fault-returns-in-Tuple : goal.target_fault-returns-in-Tuple

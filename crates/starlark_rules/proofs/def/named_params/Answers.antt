@@ -6,7 +6,7 @@ use Rattle.starlark_rulebook.specs.Parameters as parameters
 use Rattle.starlark_rules.specs.ParameterKinds as kinds
 use Rattle.starlark_rules.specs.Tallies.{param_of}
 use Rattle.starlark_rules.proofs.ParameterLists.{slash_left, slash_next, slashes_end, params_next, params_end}
-use Rattle.starlark_rules.proofs.Prefixes.{any_more}
+use Rattle.starlark_faults.proofs.Prefixes.{any_more}
 use Rattle.starlark_rules.proofs.def.named_params.Goals as goal
 
 pub slashes_behind-slashes-requires : goal.slashes_behind-slashes-requires

@@ -9,8 +9,8 @@ use Rattle.starlark_rulebook.specs.Types.{alone, argument, form_of, forms_of, fr
 use Rattle.starlark_rules.proofs.Forms.{form_view-Index2}
 use Rattle.starlark_rules.proofs.Misfits.{comes_as, exits, first_stops, forms_go_on, forms_stop, given, index2_comes, keeps_argument, keeps_second_argument, second_is, single_is, stops_for, union_is, union_of_two}
 use Rattle.starlark_rules.proofs.Places.{place_at}
-use Rattle.starlark_rules.proofs.Prefixes.{count_members}
-use Rattle.starlark_rules.proofs.Within.{member_is_less}
+use Rattle.starlark_faults.proofs.Prefixes.{count_members}
+use Rattle.starlark_faults.proofs.Within.{member_is_less}
 use Rattle.starlark_rules.proofs.types.+parts.Goals as goal
 
 -- ---- several

@@ -7,7 +7,7 @@ use Rattle.starlark_rulebook.specs.Parameters as parameters
 use Rattle.starlark_rules.specs.ParameterKinds as kinds
 use Rattle.starlark_rulebook.specs.Rules.{Finding}
 use Rattle.starlark_rulebook.specs.View.{IsPlaced, RefusesFor, finding_of, maybe_finding}
-use Rattle.starlark_rules.proofs.Prefixes.{count_members}
+use Rattle.starlark_faults.proofs.Prefixes.{count_members}
 use Rattle.starlark_rules.proofs.ParameterLists.{few, ordered, are_within}
 use Rattle.starlark_rules.proofs.def.DefParams.unpack.Goals as goal
 

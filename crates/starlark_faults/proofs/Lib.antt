@@ -1,0 +1,9 @@
+pub mod Adding
+pub mod Prefixes
+pub mod Within
+pub mod StatementLevels
+pub mod Firsts
+pub mod Levels
+pub mod Outermost
+pub mod Targets
+pub mod Visiting

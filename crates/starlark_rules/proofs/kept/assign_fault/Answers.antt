@@ -1,6 +1,0 @@
-use Rattle.starlark_rules.proofs.Firsts.{first_in}
-use Rattle.starlark_rules.proofs.kept.assign_fault.Goals as goal
-
-pub returns : goal.returns
-returns g c =
-    first_in _ _ _ _ _ (first_in _ _ _ _ _ c.target_fault.ensures c.its_type_fault.ensures c.first_of.ensures) c.expression_fault.ensures c.first_of-2.ensures

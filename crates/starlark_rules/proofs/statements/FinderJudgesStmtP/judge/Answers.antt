@@ -1,7 +1,0 @@
-use Rattle.starlark_ast.specs.View.{stmt_at}
-use Rattle.starlark_rules.proofs.StatementLevels.{each_smaller}
-use Rattle.starlark_rules.proofs.statements.FinderJudgesStmtP.judge.Goals as goal
-use Rattle.starlark_visit.proofs.SmallerStatements.{smaller_statements}
-
-pub returns-clause-smaller : goal.returns-clause-smaller
-returns-clause-smaller g c = each_smaller stmt_at _ _ (smaller_statements c.args.x.now)
