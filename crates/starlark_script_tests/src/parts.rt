@@ -74,6 +74,10 @@ fn edited(rt: &impl Abort, parts: &mut Parts) -> Result<(), Fail> {
             (Word::Expression, 5, 0),
         ],
     )?;
+    moved(rt, parts)
+}
+
+fn moved(rt: &impl Abort, parts: &mut Parts) -> Result<(), Fail> {
     parts.move_part(0, 2)?;
     is_outline(
         rt,
