@@ -126,6 +126,7 @@ after_sound text s outer margin i k n next f h w c =
       dedents = h.dedents;
       behind = omega (arith, h.behind);
       starts = h.starts;
+      fits = h.fits;
     }
 
 -- ---- behind a turn
@@ -144,6 +145,7 @@ turned_sound text s outer os margin n m h c mode others =
       dedents = h.dedents;
       behind = omega (arith, h.behind);
       starts = h.starts;
+      fits = h.fits;
     }
 
 -- at the end of the text
@@ -162,6 +164,7 @@ ended_sound text bytes s outer margin same h =
       dedents = there;
       behind = omega arith;
       starts = h.starts;
+      fits = h.fits;
     }
 
 module _ (text : List ℕ) (s : State) (outer : List Mode) (margin : ℕ) (h : IsSound text s outer margin) where
@@ -195,4 +198,4 @@ module _ (text : List ℕ) (s : State) (outer : List Mode) (margin : ℕ) (h : I
 
 -- dedents stand at another place
 pub with_margin : (text : List ℕ) (s : State) (outer : List Mode) (margin n : ℕ) → IsCharBoundary text n → n ≤ s.place → IsSound text s outer margin → IsSound text s outer n
-with_margin text s outer margin n c le h = record { opened = h.opened; closed = h.closed; boundary = h.boundary; line = h.line; mode = h.mode; around = h.around; dedents = c; behind = le; starts = h.starts }
+with_margin text s outer margin n c le h = record { fits = h.fits; opened = h.opened; closed = h.closed; boundary = h.boundary; line = h.line; mode = h.mode; around = h.around; dedents = c; behind = le; starts = h.starts }

@@ -27,13 +27,11 @@ pub record Reading : Type 0 where
 
 -- a lexer as it is in memory
 abbrev pub view_of : Inside → Reading
-view_of a = record { left = left a.parts; size = length a.parts.text.now; place = a.parts.state.place; reads = a.parts.reads; file = a.codemap }
+view_of a = record { left = left a.parts; size = length a.parts.codemap.source; place = a.parts.state.place; reads = a.parts.reads; file = a.parts.codemap }
 
 -- what holds of a lexer in memory between calls
 pub record IsLexer (a : Inside) : Type 0 where
   pub whole : IsWhole a.parts
-  pub source : a.parts.text.now ≡ a.codemap.source
-  pub fits : length a.parts.text.now ≤ 4294967295
   -- each byte that was passed is counted
   pub counted : a.parts.state.place ≤ a.parts.reads
   -- and not too often

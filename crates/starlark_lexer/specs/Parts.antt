@@ -16,7 +16,7 @@ use Rattle.starlark_lexer.specs.Reads.{Grows}
 use Rattle.starlark_lexer.specs.Turns.{Cuts, Bounds, Keeps, room}
 
 abbrev pub at : Parts → At
-at a = record { state = a.state; widths = a.widths.items; outer = a.outer.items; rest = drop a.state.place a.text.now }
+at a = record { state = a.state; widths = a.widths.items; outer = a.outer.items; rest = drop a.state.place a.codemap.source }
 
 -- what is still to be handed out
 abbrev pub left : Parts → Lexed
@@ -38,8 +38,9 @@ abbrev pub AreModes : List ℕ → ℕ → List Mode → Type 0
 AreModes text n [] = Unit {0}
 AreModes text n (m ∷ ms) = IsMode text n m × AreModes text n ms
 
--- the state fits the text, and so do the modes around it and the place of dedents
+-- the state fits the text, and so do the modes around it and the place of dedents; each place has 32 bits
 pub record IsSound (text : List ℕ) (s : State) (outer : List Mode) (margin : ℕ) : Type 0 where
+  pub fits : length text ≤ 4294967295
   pub opened : s.opened ≤ s.place
   pub closed : s.closed ≤ s.place
   -- a character begins at the place
@@ -53,7 +54,7 @@ pub record IsSound (text : List ℕ) (s : State) (outer : List Mode) (margin : �
   pub starts : IsCharBoundary text 0
 
 abbrev pub IsWhole : Parts → Type 0
-IsWhole a = IsSound a.text.now a.state a.outer.items a.margin
+IsWhole a = IsSound a.codemap.source a.state a.outer.items a.margin
 
 -- nothing that was found before is still to be handed out
 pub record IsReady (a : Parts) : Type 0 where
@@ -63,14 +64,14 @@ pub record IsReady (a : Parts) : Type 0 where
 -- the turn is what comes
 pub record Comes (a : Parts) (t : Turn) : Type 0 where
   pub is : step (at a) ≡ act t (at a)
-  pub cuts : Cuts (drop a.state.place a.text.now) t
-  pub bounds : Bounds (drop a.state.place a.text.now) t
+  pub cuts : Cuts (drop a.state.place a.codemap.source) t
+  pub bounds : Bounds (drop a.state.place a.codemap.source) t
   pub kept : Keeps a.widths.items t
 
 -- nothing is passed over here
 pub record Stands (a : Parts) : Type 0 where
   pub within : a.state.fresh ≡ false
-  pub none : pass (is_joined a.state) (drop a.state.place a.text.now) ≡ 0
+  pub none : pass (is_joined a.state) (drop a.state.place a.codemap.source) ≡ 0
 
 -- What a refusal is given for. Memory is missed only where the next answer takes some.
 abbrev pub Stops : Lexed → Fault → Type 0
@@ -104,7 +105,7 @@ pub record Moves (a b : Parts) : Type 0 where
 -- At most 16 looks were made for each byte that was passed, and 2 more within a line; 16 more of the whole text where it is over.
 pub record IsPaid (a : Parts) : Type 0 where
   pub most : a.over ≡ false → a.reads + (if a.state.fresh then 2 else 0) ≤ 16 * a.state.place + 2
-  pub all : a.reads ≤ 16 * length a.text.now + 16
+  pub all : a.reads ≤ 16 * length a.codemap.source + 16
 
 -- so many looks were made for the turn that comes, too
 abbrev pub Covers : Parts → Turn → Type 0

@@ -20,24 +20,20 @@ use std::marker::Model;
 /// Why a text is refused: the error with its place, or want of memory.
 pub type EvalException = Refusal<LexemeError>;
 
-/// Cuts a text into lexemes. A clause sees the items and the fault that are left, the length of the
-/// text, how much of it is cut, the count of looks so far and the source.
-pub struct Lexer<'a> {
-    parts: Parts<'a>,
-    codemap: CodeMap,
+/// Cuts a text into lexemes: the source of the code map, which it holds. A clause sees the items and the fault that are
+/// left, the length of the text, how much of it is cut, the count of looks so far and the source.
+pub struct Lexer {
+    parts: Parts,
 }
 
 // Written out, so that a crate that lets a lexer go need not prove how its parts are let go.
-impl<'a> Drop for Lexer<'a> {
+impl Drop for Lexer {
     fn drop(self) {
-        let Lexer {
-            parts: _parts,
-            codemap: _codemap,
-        } = self;
+        let Lexer { parts: _parts } = self;
     }
 }
 
-impl<'a> Model for Lexer<'a> {
+impl Model for Lexer {
     ghost use Rattle.starlark_lexer.specs.Model.{Reading, view_of, IsLexer};
 
     ghost Value = { Reading };
@@ -47,10 +43,10 @@ impl<'a> Model for Lexer<'a> {
     ghost invariant = { IsLexer };
 }
 
-impl<'a> Lexer<'a> {
-    /// Stands at the beginning of the input, which is the map's source: comparing it with `CodeMap::source` tells that. It
-    /// takes no memory, and the dialect changes no lexeme.
-    pub fn new(alloc: Global, input: &'a str, _dialect: &Dialect, codemap: CodeMap) -> Lexer<'a>
+impl Lexer {
+    /// Stands at the beginning of the input, which is the map's source: comparing it with `CodeMap::source` tells that. The
+    /// map is kept, and the input is not. It takes no memory, and the dialect changes no lexeme.
+    pub fn new(alloc: Global, input: &str, _dialect: &Dialect, codemap: CodeMap) -> Lexer
         requires { codemap.source ≡ input.now }
         ensures left { Lex start input.now result.left }
         ensures size { result.size ≡ length input.now }
@@ -63,7 +59,7 @@ impl<'a> Lexer<'a> {
         Lexer {
             parts: Parts {
                 alloc,
-                text: input,
+                codemap,
                 state: State {
                     place: 0,
                     opened: 0,
@@ -80,7 +76,6 @@ impl<'a> Lexer<'a> {
                 over: false,
                 reads: 0,
             },
-            codemap,
         }
     }
 
@@ -102,7 +97,7 @@ impl<'a> Lexer<'a> {
                 error,
                 begin,
                 end,
-                &self.codemap,
+                &self.parts.codemap,
             ))),
             Err(Fault::Memory) => Some(Err(Refusal::Memory)),
         }
@@ -120,7 +115,7 @@ impl<'a> Lexer<'a> {
     }
 }
 
-impl<'a> Iterator for Lexer<'a> {
+impl Iterator for Lexer {
     ghost use Rattle.std.specs.Iterator.{at_most};
     ghost use Rattle.starlark_lexer.specs.Items.{answers};
     ghost use Rattle.starlark_lexer.specs.Model.{IsNext};

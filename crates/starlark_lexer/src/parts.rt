@@ -18,6 +18,7 @@ use crate::state::{
     advance, begin_of, body_of, field_of, in_text, is_joined, pass_lexeme, pop, turned,
 };
 use crate::token::{LexemeError, Token};
+use starlark_place::codemap::CodeMap;
 use std::alloc::Global;
 
 /// Why nothing more is handed out.
@@ -32,9 +33,10 @@ pub(crate) enum Fault {
 pub(crate) type Answer = Result<(usize, Token, usize), Fault>;
 
 #[derive(Drop)]
-pub(crate) struct Parts<'a> {
+pub(crate) struct Parts {
     pub alloc: Global,
-    pub text: &'a str,
+    /// Its source is the text.
+    pub codemap: CodeMap,
     pub state: State,
     /// The widths that are open, from the outside in.
     pub widths: Vec<usize>,
@@ -59,9 +61,9 @@ fn hand_out(parts: &mut Parts, turn: Turn) -> Answer
     requires lexical { IsLexical turn }
     requires paid { Covers parts.old turn }
     ensures whole { IsWhole parts.new }
-    ensures text { parts.new.text.now ≡ parts.old.text.now }
+    ensures text { parts.new.codemap ≡ parts.old.codemap }
     ensures gives { Hands (left parts.old) (Some result) (left parts.new) }
-    ensures spans { Spans parts.old.text.now (Some result) }
+    ensures spans { Spans parts.old.codemap.source (Some result) }
     ensures goes { Advances parts.old parts.new (passed turn) }
     ensures paid { IsPaid parts.new }
     ensures reaches { Reaches (Some result) parts.new.state.place }
@@ -109,14 +111,14 @@ fn finish(parts: &mut Parts, turn: Turn, gap: usize) -> Answer
     requires is { turn ≡ End gap }
     requires paid { Covers parts.old turn }
     ensures whole { IsWhole parts.new }
-    ensures text { parts.new.text.now ≡ parts.old.text.now }
+    ensures text { parts.new.codemap ≡ parts.old.codemap }
     ensures gives { Hands (left parts.old) (Some result) (left parts.new) }
-    ensures spans { Spans parts.old.text.now (Some result) }
+    ensures spans { Spans parts.old.codemap.source (Some result) }
     ensures goes { Advances parts.old parts.new (passed turn) }
     ensures paid { IsPaid parts.new }
     ensures reaches { Reaches (Some result) parts.new.state.place }
 {
-    let end = parts.text.as_bytes().len();
+    let end = parts.codemap.source().as_bytes().len();
     parts.state.place = end;
     parts.margin = end;
     parts.pending = parts.widths.len();
@@ -129,12 +131,12 @@ fn refuse(parts: &mut Parts, begin: usize, error: LexemeError, end: usize) -> An
     requires whole { IsWhole parts.old }
     requires ready { IsReady parts.old }
     requires is { left parts.old ≡ with_fault begin error end }
-    requires stretch { IsStretch parts.old.text.now begin end }
-    requires paid { parts.old.reads ≤ 16 * length parts.old.text.now + 16 }
+    requires stretch { IsStretch parts.old.codemap.source begin end }
+    requires paid { parts.old.reads ≤ 16 * length parts.old.codemap.source + 16 }
     ensures whole { IsWhole parts.new }
-    ensures text { parts.new.text.now ≡ parts.old.text.now }
+    ensures text { parts.new.codemap ≡ parts.old.codemap }
     ensures gives { Hands (left parts.old) (Some result) (left parts.new) }
-    ensures spans { Spans parts.old.text.now (Some result) }
+    ensures spans { Spans parts.old.codemap.source (Some result) }
     ensures goes { Advances parts.old parts.new 0 }
     ensures paid { IsPaid parts.new }
     ensures reaches { Reaches (Some result) parts.new.state.place }
@@ -160,15 +162,15 @@ fn give(
     requires is { turn ≡ Gives begin kind len next fresh }
     requires paid { Covers parts.old turn }
     ensures whole { IsWhole parts.new }
-    ensures text { parts.new.text.now ≡ parts.old.text.now }
+    ensures text { parts.new.codemap ≡ parts.old.codemap }
     ensures gives { Hands (left parts.old) (Some result) (left parts.new) }
-    ensures spans { Spans parts.old.text.now (Some result) }
+    ensures spans { Spans parts.old.codemap.source (Some result) }
     ensures goes { Advances parts.old parts.new (passed turn) }
     ensures paid { IsPaid parts.new }
     ensures reaches { Reaches (Some result) parts.new.state.place }
 {
     let place = parts.state.place;
-    let text = &parts.text[place + begin..place + begin + len];
+    let text = &parts.codemap.source()[place + begin..place + begin + len];
     pass_lexeme(&mut parts.state, begin, kind, len, next, fresh);
     match token(parts.alloc, kind, text) {
         Ok(token) => Ok((place + begin, token, place + begin + len)),
@@ -187,9 +189,9 @@ fn enter(parts: &mut Parts, turn: Turn, form: Form, len: usize) -> Answer
     requires is { turn ≡ Enter form len }
     requires paid { Covers parts.old turn }
     ensures whole { IsWhole parts.new }
-    ensures text { parts.new.text.now ≡ parts.old.text.now }
+    ensures text { parts.new.codemap ≡ parts.old.codemap }
     ensures gives { Hands (left parts.old) (Some result) (left parts.new) }
-    ensures spans { Spans parts.old.text.now (Some result) }
+    ensures spans { Spans parts.old.codemap.source (Some result) }
     ensures goes { Advances parts.old parts.new (passed turn) }
     ensures paid { IsPaid parts.new }
     ensures reaches { Reaches (Some result) parts.new.state.place }
@@ -211,9 +213,9 @@ fn leave(parts: &mut Parts, turn: Turn, len: usize) -> Answer
     requires is { turn ≡ Leave len }
     requires paid { Covers parts.old turn }
     ensures whole { IsWhole parts.new }
-    ensures text { parts.new.text.now ≡ parts.old.text.now }
+    ensures text { parts.new.codemap ≡ parts.old.codemap }
     ensures gives { Hands (left parts.old) (Some result) (left parts.new) }
-    ensures spans { Spans parts.old.text.now (Some result) }
+    ensures spans { Spans parts.old.codemap.source (Some result) }
     ensures goes { Advances parts.old parts.new (passed turn) }
     ensures paid { IsPaid parts.new }
     ensures reaches { Reaches (Some result) parts.new.state.place }
@@ -232,7 +234,7 @@ fn line_ahead(parts: &Parts, reads: &mut u64) -> Turn
     ensures paid { reads.new ≤ reads.old + room result }
     ensures looked { Grows reads.old (passed result) reads.new }
 {
-    let bytes = parts.text.as_bytes();
+    let bytes = parts.codemap.source().as_bytes();
     line_turn(&parts.widths, &bytes[parts.state.place..], reads)
 }
 
@@ -243,9 +245,9 @@ fn begin_line(parts: &mut Parts) -> Option<Answer>
     requires fresh { parts.old.state.fresh ≡ true }
     requires paid { IsPaid parts.old }
     ensures whole { IsWhole parts.new }
-    ensures text { parts.new.text.now ≡ parts.old.text.now }
+    ensures text { parts.new.codemap ≡ parts.old.codemap }
     ensures gives { Begins parts.old result parts.new }
-    ensures spans { Spans parts.old.text.now result }
+    ensures spans { Spans parts.old.codemap.source result }
     ensures moves { Moves parts.old parts.new }
     ensures paid { IsPaid parts.new }
     ensures reaches { Reaches result parts.new.state.place }
@@ -268,9 +270,9 @@ fn fit(parts: &mut Parts, turn: Turn, kept: usize, gap: usize) -> Option<Answer>
     requires is { turn ≡ Fits kept gap }
     requires paid { Covers parts.old turn }
     ensures whole { IsWhole parts.new }
-    ensures text { parts.new.text.now ≡ parts.old.text.now }
+    ensures text { parts.new.codemap ≡ parts.old.codemap }
     ensures gives { Begins parts.old result parts.new }
-    ensures spans { Spans parts.old.text.now result }
+    ensures spans { Spans parts.old.codemap.source result }
     ensures goes { Advances parts.old parts.new (passed turn) }
     ensures paid { IsPaid parts.new }
     ensures reaches { Reaches result parts.new.state.place }
@@ -295,9 +297,9 @@ fn deepen(parts: &mut Parts, turn: Turn, width: usize, gap: usize) -> Answer
     requires is { turn ≡ Deeper width gap }
     requires paid { Covers parts.old turn }
     ensures whole { IsWhole parts.new }
-    ensures text { parts.new.text.now ≡ parts.old.text.now }
+    ensures text { parts.new.codemap ≡ parts.old.codemap }
     ensures gives { Hands (left parts.old) (Some result) (left parts.new) }
-    ensures spans { Spans parts.old.text.now (Some result) }
+    ensures spans { Spans parts.old.codemap.source (Some result) }
     ensures goes { Advances parts.old parts.new (passed turn) }
     ensures paid { IsPaid parts.new }
     ensures reaches { Reaches (Some result) parts.new.state.place }
@@ -319,16 +321,16 @@ fn pass_over(parts: &mut Parts)
     requires among { in_text parts.old.state.mode ≡ false }
     requires paid { IsPaid parts.old }
     ensures whole { IsWhole parts.new }
-    ensures text { parts.new.text.now ≡ parts.old.text.now }
+    ensures text { parts.new.codemap ≡ parts.old.codemap }
     ensures among { in_text parts.new.state.mode ≡ false }
     ensures same { left parts.new ≡ left parts.old }
     ensures ready { IsReady parts.new }
     ensures stands { Stands parts.new }
     ensures moves { Moves parts.old parts.new }
-    ensures paid { parts.new.reads ≤ 16 * parts.new.state.place + 3 + (if begins 92 (drop parts.new.state.place parts.new.text.now) then 2 else 0) }
+    ensures paid { parts.new.reads ≤ 16 * parts.new.state.place + 3 + (if begins 92 (drop parts.new.state.place parts.new.codemap.source) then 2 else 0) }
 {
     let joined = is_joined(parts.state);
-    let bytes = parts.text.as_bytes();
+    let bytes = parts.codemap.source().as_bytes();
     let mut reads = parts.reads;
     let gap = gap(joined, &bytes[parts.state.place..], &mut reads);
     parts.reads = reads;
@@ -342,10 +344,10 @@ fn lexeme_ahead(parts: &Parts, reads: &mut u64) -> Turn
     requires among { in_text parts.now.state.mode ≡ false }
     ensures comes { Comes parts.now result }
     ensures lexical { IsLexical result }
-    ensures paid { reads.new + 3 + (if begins 92 (drop parts.now.state.place parts.now.text.now) then 2 else 0) ≤ reads.old + room result }
+    ensures paid { reads.new + 3 + (if begins 92 (drop parts.now.state.place parts.now.codemap.source) then 2 else 0) ≤ reads.old + room result }
     ensures looked { Grows reads.old (passed result) reads.new }
 {
-    let bytes = parts.text.as_bytes();
+    let bytes = parts.codemap.source().as_bytes();
     here(parts.state.mode, &bytes[parts.state.place..], reads)
 }
 
@@ -359,7 +361,7 @@ fn text_ahead(parts: &Parts, begin: usize, form: Form, reads: &mut u64) -> Turn
     ensures paid { reads.new + 2 ≤ reads.old + room result }
     ensures looked { Grows reads.old (passed result) reads.new }
 {
-    let bytes = parts.text.as_bytes();
+    let bytes = parts.codemap.source().as_bytes();
     text_here(form, &bytes[parts.state.place..], reads)
 }
 
@@ -371,9 +373,9 @@ fn in_format(parts: &mut Parts, begin: usize, form: Form) -> Answer
     requires mode { parts.old.state.mode ≡ Inside begin form }
     requires paid { IsPaid parts.old }
     ensures whole { IsWhole parts.new }
-    ensures text { parts.new.text.now ≡ parts.old.text.now }
+    ensures text { parts.new.codemap ≡ parts.old.codemap }
     ensures gives { Hands (left parts.old) (Some result) (left parts.new) }
-    ensures spans { Spans parts.old.text.now (Some result) }
+    ensures spans { Spans parts.old.codemap.source (Some result) }
     ensures moves { Moves parts.old parts.new }
     ensures paid { IsPaid parts.new }
     ensures reaches { Reaches (Some result) parts.new.state.place }
@@ -392,9 +394,9 @@ fn in_code(parts: &mut Parts) -> Answer
     requires among { in_text parts.old.state.mode ≡ false }
     requires paid { IsPaid parts.old }
     ensures whole { IsWhole parts.new }
-    ensures text { parts.new.text.now ≡ parts.old.text.now }
+    ensures text { parts.new.codemap ≡ parts.old.codemap }
     ensures gives { Hands (left parts.old) (Some result) (left parts.new) }
-    ensures spans { Spans parts.old.text.now (Some result) }
+    ensures spans { Spans parts.old.codemap.source (Some result) }
     ensures moves { Moves parts.old parts.new }
     ensures paid { IsPaid parts.new }
     ensures reaches { Reaches (Some result) parts.new.state.place }
@@ -413,9 +415,9 @@ fn in_line(parts: &mut Parts) -> Answer
     requires within { parts.old.state.fresh ≡ false }
     requires paid { IsPaid parts.old }
     ensures whole { IsWhole parts.new }
-    ensures text { parts.new.text.now ≡ parts.old.text.now }
+    ensures text { parts.new.codemap ≡ parts.old.codemap }
     ensures gives { Hands (left parts.old) (Some result) (left parts.new) }
-    ensures spans { Spans parts.old.text.now (Some result) }
+    ensures spans { Spans parts.old.codemap.source (Some result) }
     ensures moves { Moves parts.old parts.new }
     ensures paid { IsPaid parts.new }
     ensures reaches { Reaches (Some result) parts.new.state.place }
@@ -431,9 +433,9 @@ pub(crate) fn next(parts: &mut Parts) -> Option<Answer>
     requires whole { IsWhole parts.old }
     requires paid { IsPaid parts.old }
     ensures whole { IsWhole parts.new }
-    ensures text { parts.new.text.now ≡ parts.old.text.now }
+    ensures text { parts.new.codemap ≡ parts.old.codemap }
     ensures gives { Hands (left parts.old) result (left parts.new) }
-    ensures spans { Spans parts.old.text.now result }
+    ensures spans { Spans parts.old.codemap.source result }
     ensures moves { Moves parts.old parts.new }
     ensures paid { IsPaid parts.new }
     ensures reaches { Reaches result parts.new.state.place }

@@ -23,23 +23,23 @@ use std::alloc::Global;
 /// calls that with these trees proves how they are let go.
 pub fn read_tree(
     alloc: Global,
-    lexer: Lexer<'_>,
+    lexer: Lexer,
     dialect: &Dialect,
     told: &mut Told,
 ) -> Result<AstStmt, Refused>
-    ensures whole { IfOk result (λ x. (lexer.entry.left.fault ≡ None) × IsProgram dialect.now (uncommented lexer.entry.left).items (stmt_at x)) }
-    ensures refused { (e : Refused) (f : Fault) → result ≡ Err e → fault_of e ≡ Some f → IsRefusal dialect.now (uncommented lexer.entry.left) f }
-    ensures language { (text : List ℕ) → Lex start text lexer.entry.left → IfOk result (λ x. Language dialect.now text (stmt_at x)) }
-    ensures reason { (text : List ℕ) (e : Refused) (f : Fault) → Lex start text lexer.entry.left → result ≡ Err e → fault_of e ≡ Some f → IsRefused dialect.now text f }
-    ensures comments { IfOk result (λ x. told.new.comments.places.items ≡ comments_in lexer.entry.left.items) }
-    ensures joined { IfOk result (λ x. told.new.comments.joined.items ≡ joined_in false lexer.entry.left.items) }
+    ensures whole { IfOk result (λ x. (lexer.left.fault ≡ None) × IsProgram dialect.now (uncommented lexer.left).items (stmt_at x)) }
+    ensures refused { (e : Refused) (f : Fault) → result ≡ Err e → fault_of e ≡ Some f → IsRefusal dialect.now (uncommented lexer.left) f }
+    ensures language { (text : List ℕ) → Lex start text lexer.left → IfOk result (λ x. Language dialect.now text (stmt_at x)) }
+    ensures reason { (text : List ℕ) (e : Refused) (f : Fault) → Lex start text lexer.left → result ≡ Err e → fault_of e ≡ Some f → IsRefused dialect.now text f }
+    ensures comments { IfOk result (λ x. told.new.comments.places.items ≡ comments_in lexer.left.items) }
+    ensures joined { IfOk result (λ x. told.new.comments.joined.items ≡ joined_in false lexer.left.items) }
     ensures bare { IsErr result → (told.new.comments.places.items ≡ []) × (told.new.comments.joined.items ≡ []) }
-    ensures asks { IfOk result (λ x. told.new.cost.asks ≡ counted (suc (length lexer.entry.left.items))) }
-    ensures reads { IfOk result (λ x. last_end 0 (uncommented lexer.entry.left).items ≤ told.new.cost.reads) }
-    ensures bounded { IfOk result (λ x. told.new.cost.reads ≤ 16 * lexer.entry.size + 16) }
-    ensures asked { IfErr result (λ e. fault_of e ≢ None → suc (length lexer.entry.left.items) < 18446744073709551615 → told.new.cost.asks ≡ asked dialect.now lexer.entry.left) }
-    ensures reached { IfErr result (λ e. fault_of e ≢ None → reached dialect.now (uncommented lexer.entry.left).items ≤ told.new.cost.reads) }
-    ensures spent { IfErr result (λ e. fault_of e ≢ None → told.new.cost.reads ≤ 16 * lexer.entry.size + 16) }
+    ensures asks { IfOk result (λ x. told.new.cost.asks ≡ counted (suc (length lexer.left.items))) }
+    ensures reads { IfOk result (λ x. last_end 0 (uncommented lexer.left).items ≤ told.new.cost.reads) }
+    ensures bounded { IfOk result (λ x. told.new.cost.reads ≤ 16 * lexer.size + 16) }
+    ensures asked { IfErr result (λ e. fault_of e ≢ None → suc (length lexer.left.items) < 18446744073709551615 → told.new.cost.asks ≡ asked dialect.now lexer.left) }
+    ensures reached { IfErr result (λ e. fault_of e ≢ None → reached dialect.now (uncommented lexer.left).items ≤ told.new.cost.reads) }
+    ensures spent { IfErr result (λ e. fault_of e ≢ None → told.new.cost.reads ≤ 16 * lexer.size + 16) }
 {
     read::<Trees>(alloc, lexer, dialect, told)
 }

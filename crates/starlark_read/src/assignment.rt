@@ -23,11 +23,8 @@ use starlark_grammar::build::Build;
 use starlark_lexer::dialect::Dialect;
 
 /// A small statement that begins with an expression.
-pub(crate) fn assignment<B: Build>(
-    tokens: &mut Tokens<'_>,
-    dialect: &Dialect,
-) -> Result<B::Stmt, Error>
-    ensures reads { (k : Line) → Comes dialect.now (wants 12 (spot (first (start tokens.old.items) k))) (λ x. behind_small (B.says x) k) tokens.old result tokens.new }
+pub(crate) fn assignment<B: Build>(tokens: &mut Tokens, dialect: Dialect) -> Result<B::Stmt, Error>
+    ensures reads { (k : Line) → Comes dialect (wants 12 (spot (first (start tokens.old.items) k))) (λ x. behind_small (B.says x) k) tokens.old result tokens.new }
     ensures shorter { OnOk result (length tokens.new.items < length tokens.old.items) }
 {
     let begin = tokens.begin();
@@ -48,12 +45,9 @@ pub(crate) fn assignment<B: Build>(
 }
 
 // the type of a left side, if a colon stands behind that
-fn annotation<B: Build>(
-    tokens: &mut Tokens<'_>,
-    dialect: &Dialect,
-) -> Result<Option<B::Type>, Error>
-    ensures reads { (l : Expr) (p : ℕ) (k : Line) → Comes dialect.now (has l tokens.old.last (listed tree.none p (left p k))) (λ t. behind_left l (annotation_of B.type_means t) tokens.new.last p k) tokens.old result tokens.new }
-    ensures whole { first_lexeme tokens.old.items ≢ Some comma → IfOk result (λ t. IsWhole dialect.now (annotation_of B.type_means t) tokens.new.items) }
+fn annotation<B: Build>(tokens: &mut Tokens, dialect: Dialect) -> Result<Option<B::Type>, Error>
+    ensures reads { (l : Expr) (p : ℕ) (k : Line) → Comes dialect (has l tokens.old.last (listed tree.none p (left p k))) (λ t. behind_left l (annotation_of B.type_means t) tokens.new.last p k) tokens.old result tokens.new }
+    ensures whole { first_lexeme tokens.old.items ≢ Some comma → IfOk result (λ t. IsWhole dialect (annotation_of B.type_means t) tokens.new.items) }
     ensures shorter { OnOk result (length tokens.new.items ≤ length tokens.old.items) }
 {
     if !tokens.accept(Kind::Colon)? {
@@ -63,7 +57,7 @@ fn annotation<B: Build>(
 }
 
 // the operator behind a left side and its type
-fn operator(tokens: &mut Tokens<'_>) -> Result<Option<AssignOp>, Error>
+fn operator(tokens: &mut Tokens) -> Result<Option<AssignOp>, Error>
     ensures reads { (d : Dialect) (l : Expr) (t : Annotation) (p : ℕ) (k : Line) → IsWhole d t tokens.old.items → Comes d (behind_left l t tokens.old.last p k) (λ o. wants_list (right l t o p k)) tokens.old result tokens.new }
     ensures shorter { OnOk result (length tokens.new.items < length tokens.old.items) }
 {
@@ -78,7 +72,7 @@ fn operator(tokens: &mut Tokens<'_>) -> Result<Option<AssignOp>, Error>
 }
 
 // the operation of an operator that stands ahead, if that assigns and is not `=`
-fn assign_op_ahead(tokens: &Tokens<'_>) -> Option<AssignOp>
+fn assign_op_ahead(tokens: &Tokens) -> Option<AssignOp>
     ensures { result ≡ assign_op_ahead tokens.now.items }
 {
     match tokens.kind() {

@@ -26,7 +26,7 @@ use starlark_place::pos::{Pos, Span};
 /// where they stand without it.
 #[cycle(expression)]
 pub(crate) fn members_behind<B: Build>(
-    tokens: &mut Tokens<'_>,
+    tokens: &mut Tokens,
     closing: Kind,
     begin: Pos,
     first: B::Expr,
@@ -54,7 +54,7 @@ pub(crate) fn members_behind<B: Build>(
 
 /// A key and its value, where no dict ends.
 #[cycle(expression)]
-pub(crate) fn pair<B: Build>(tokens: &mut Tokens<'_>) -> Result<(B::Expr, B::Expr), Error>
+pub(crate) fn pair<B: Build>(tokens: &mut Tokens) -> Result<(B::Expr, B::Expr), Error>
     ensures reads { (d : Dialect) (b : ℕ) (ms : tree.Members) (t : Bool) (e f : ℕ) (k : Frames) → first_lexeme tokens.old.items ≢ Some closing_curly → Comes d (stands (member_wanted (brackets curly b) ms t e f) k) (λ x. stands (member_read (brackets curly b) (tree.more ms (tree.pair (B.means x.0) (B.means x.1))) tokens.new.last (first_at ms f (start tokens.old.items))) k) tokens.old result tokens.new }
     ensures shorter { OnOk result (length tokens.new.items < length tokens.old.items) }
 {
@@ -67,7 +67,7 @@ pub(crate) fn pair<B: Build>(tokens: &mut Tokens<'_>) -> Result<(B::Expr, B::Exp
 /// The pairs of a dict behind the comma of the first, with what closes them.
 #[cycle(expression)]
 pub(crate) fn pairs_behind<B: Build>(
-    tokens: &mut Tokens<'_>,
+    tokens: &mut Tokens,
     first: (B::Expr, B::Expr),
 ) -> Result<Vec<(B::Expr, B::Expr)>, Error>
     ensures reads { (d : Dialect) (b f : ℕ) (k : Frames) → Comes d (stands (member_wanted (brackets curly b) (tree.more tree.none (tree.pair (B.means first.0) (B.means first.1))) true tokens.old.last f) k) (λ x. has (tree.dict (pairs_of B.means x.items) (stretch b tokens.new.last)) tokens.new.last k) tokens.old result tokens.new }

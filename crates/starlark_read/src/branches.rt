@@ -18,11 +18,11 @@ use starlark_place::pos::Pos;
 /// An `if` or `elif` behind its first word, which begins at `begin`, with all that belongs to it.
 #[cycle(statement)]
 pub(crate) fn branches<B: Build>(
-    tokens: &mut Tokens<'_>,
-    dialect: &Dialect,
+    tokens: &mut Tokens,
+    dialect: Dialect,
     begin: Pos,
 ) -> Result<B::Stmt, Error>
-    ensures reads { (k : Ifs) → Comes dialect.now (wants 12 (spot (test begin k))) (λ x. at_line (settled k (B.says x) tokens.new.last) tokens.new.last) tokens.old result tokens.new }
+    ensures reads { (k : Ifs) → Comes dialect (wants 12 (spot (test begin k))) (λ x. at_line (settled k (B.says x) tokens.new.last) tokens.new.last) tokens.old result tokens.new }
     ensures shorter { OnOk result (length tokens.new.items < length tokens.old.items) }
 {
     let alloc = tokens.alloc();

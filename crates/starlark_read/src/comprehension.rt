@@ -22,7 +22,7 @@ use starlark_grammar::build::Build;
 /// The clauses of a comprehension behind the first `for`, with what closes the brackets.
 #[cycle(expression)]
 pub(crate) fn clauses<B: Build>(
-    tokens: &mut Tokens<'_>,
+    tokens: &mut Tokens,
     closing: Kind,
 ) -> Result<((B::Target, B::Expr), Vec<B::Clause>), Error>
     requires { is_plain closing ≡ true }
@@ -47,7 +47,7 @@ pub(crate) fn clauses<B: Build>(
 
 /// A clause behind its `for`: its target, and what it goes over.
 #[cycle(expression)]
-fn for_clause<B: Build>(tokens: &mut Tokens<'_>) -> Result<(B::Target, B::Expr), Error>
+fn for_clause<B: Build>(tokens: &mut Tokens) -> Result<(B::Target, B::Expr), Error>
     ensures reads { (d : Dialect) (p : Bracket) (b : ℕ) (m : tree.Member) (cs : tree.Clauses) (k : Frames) → Comes d (stands (member_wanted (targets_in p b m cs) tree.none false 0 0) k) (λ x. stands (clauses_read p b m (tree.and_clause cs (tree.for_clause (B.target_means x.0) (B.means x.1)))) k) tokens.old result tokens.new }
     ensures shorter { OnOk result (length tokens.new.items < length tokens.old.items) }
 {

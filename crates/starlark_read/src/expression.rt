@@ -17,7 +17,7 @@ use starlark_grammar::build::Build;
 
 /// An expression of a level.
 #[cycle(expression)]
-pub(crate) fn expression<B: Build>(tokens: &mut Tokens<'_>, level: u8) -> Result<B::Expr, Error>
+pub(crate) fn expression<B: Build>(tokens: &mut Tokens, level: u8) -> Result<B::Expr, Error>
     requires { level ≤ 12 }
     ensures reads { (d : Dialect) (k : Frames) → Comes d (wants level k) (λ x. has (B.means x) tokens.new.last k) tokens.old result tokens.new }
     ensures shorter { OnOk result (length tokens.new.items < length tokens.old.items) }

@@ -23,7 +23,7 @@ use starlark_rulebook::rule::Rule;
 use std::alloc::AllocError;
 
 /// Reads the beginning of an f-string, if one stands ahead.
-pub(crate) fn opens_f_string(tokens: &mut Tokens<'_>) -> Result<bool, AllocError>
+pub(crate) fn opens_f_string(tokens: &mut Tokens) -> Result<bool, AllocError>
     ensures reads { IfOk result (λ found. MatchBool found ((d : Dialect) (k : Frames) → Goes d (wants 0 k) tokens.old (stands (piece_wanted (start tokens.old.items) [] tree.none) (tail 0 k)) tokens.new) ((tokens.new ≡ tokens.old) × (quoted_ahead tokens.old.items ≡ false))) }
     ensures shorter { IfOk result (λ found. found ≡ true → length tokens.new.items < length tokens.old.items) }
 {
@@ -41,7 +41,7 @@ pub(crate) fn opens_f_string(tokens: &mut Tokens<'_>) -> Result<bool, AllocError
 
 /// An f-string behind its beginning.
 #[cycle(expression)]
-pub(crate) fn f_string<B: Build>(tokens: &mut Tokens<'_>, begin: Pos) -> Result<B::Expr, Error>
+pub(crate) fn f_string<B: Build>(tokens: &mut Tokens, begin: Pos) -> Result<B::Expr, Error>
     ensures reads { (d : Dialect) (k : Frames) → Comes d (stands (piece_wanted begin [] tree.none) k) (λ x. has (B.means x) tokens.new.last k) tokens.old result tokens.new }
     ensures shorter { OnOk result (length tokens.new.items < length tokens.old.items) }
 {
@@ -60,7 +60,7 @@ pub(crate) fn f_string<B: Build>(tokens: &mut Tokens<'_>, begin: Pos) -> Result<
 }
 
 /// Reads the text between fields, if one stands ahead, and puts it behind the format.
-fn text(tokens: &mut Tokens<'_>, format: &mut String) -> Result<bool, AllocError>
+fn text(tokens: &mut Tokens, format: &mut String) -> Result<bool, AllocError>
     ensures reads { IfOk result (λ found. MatchBool found ((d : Dialect) (b : ℕ) (ms : tree.Members) (k : Frames) → Goes d (stands (piece_wanted b (string_bytes format.old) ms) k) tokens.old (stands (piece_wanted b (string_bytes format.new) ms) k) tokens.new) ((tokens.new ≡ tokens.old) × (format.new ≡ format.old) × (text_ahead tokens.old.items ≡ None))) }
     ensures shorter { IfOk result (λ found. found ≡ true → length tokens.new.items < length tokens.old.items) }
 {
@@ -102,7 +102,7 @@ fn push_twice_if_brace(format: &mut String, c: char) -> Result<(), AllocError>
 
 /// A field behind its opening brace.
 #[cycle(expression)]
-fn field<B: Build>(tokens: &mut Tokens<'_>, format: &mut String) -> Result<B::Expr, Error>
+fn field<B: Build>(tokens: &mut Tokens, format: &mut String) -> Result<B::Expr, Error>
     ensures reads { (d : Dialect) (b : ℕ) (ms : tree.Members) (k : Frames) → Comes d (wants 12 (inside (field b (string_bytes format.old) ms) k)) (λ x. stands (piece_wanted b (string_bytes format.new) (tree.more ms (tree.item (B.means x)))) k) tokens.old result tokens.new }
     ensures shorter { OnOk result (length tokens.new.items < length tokens.old.items) }
 {
@@ -118,7 +118,7 @@ fn field<B: Build>(tokens: &mut Tokens<'_>, format: &mut String) -> Result<B::Ex
 }
 
 /// What a field asks for behind its `!`, which begins at `begin`, with the closing brace.
-fn conversion(tokens: &mut Tokens<'_>, format: &mut String, begin: Pos) -> Result<(), Error>
+fn conversion(tokens: &mut Tokens, format: &mut String, begin: Pos) -> Result<(), Error>
     ensures reads { (d : Dialect) (b : ℕ) (ms : tree.Members) (q : tree.Expr) (k : Frames) → Comes d (stands (letter_wanted b (string_bytes format.old) ms q begin tokens.old.last) k) (λ u. stands (piece_wanted b (string_bytes format.new) (tree.more ms (tree.item q))) k) tokens.old result tokens.new }
     ensures shorter { OnOk result (length tokens.new.items < length tokens.old.items) }
 {

@@ -24,8 +24,8 @@ pub(crate) enum Lookahead {
 
 /// A lexer whose comments are put aside and whose answers are counted.
 #[derive(Drop)]
-pub(crate) struct Feed<'a> {
-    lexer: Lexer<'a>,
+pub(crate) struct Feed {
+    lexer: Lexer,
     // where the comments stand
     comments: Vec<Span>,
     // for each of them, whether the item right before it is a comment, too
@@ -46,11 +46,11 @@ fn is_comment(token: &Token) -> bool
     }
 }
 
-impl<'a> Feed<'a> {
+impl Feed {
     /// A lexer that was not asked yet.
-    pub(crate) fn new(alloc: Global, lexer: Lexer<'a>) -> Feed<'a>
-        ensures lexer { result.lexer ≡ lexer.entry }
-        ensures aside { in_all result ≡ aside_in lexer.entry.size lexer.entry.left.items }
+    pub(crate) fn new(alloc: Global, lexer: Lexer) -> Feed
+        ensures lexer { result.lexer ≡ lexer }
+        ensures aside { in_all result ≡ aside_in lexer.size lexer.left.items }
     {
         Feed {
             lexer,
@@ -138,8 +138,8 @@ impl<'a> Feed<'a> {
 
     /// The comments that were passed.
     pub(crate) fn into_comments(self) -> Comments
-        ensures places { result.places.items ≡ self.entry.comments.items }
-        ensures joined { result.joined.items ≡ self.entry.joined.items }
+        ensures places { result.places.items ≡ self.comments.items }
+        ensures joined { result.joined.items ≡ self.joined.items }
     {
         Comments {
             places: self.comments,

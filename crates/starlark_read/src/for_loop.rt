@@ -19,11 +19,11 @@ use starlark_place::pos::Pos;
 /// A `for` statement behind its first word, which begins at `begin`.
 #[cycle(statement)]
 pub(crate) fn for_loop<B: Build>(
-    tokens: &mut Tokens<'_>,
-    dialect: &Dialect,
+    tokens: &mut Tokens,
+    dialect: Dialect,
     begin: Pos,
 ) -> Result<B::Stmt, Error>
-    ensures reads { (k : Blocks) → Comes dialect.now (wants_list (target begin k)) (λ x. at_line (push k (B.says x)) tokens.new.last) tokens.old result tokens.new }
+    ensures reads { (k : Blocks) → Comes dialect (wants_list (target begin k)) (λ x. at_line (push k (B.says x)) tokens.new.last) tokens.old result tokens.new }
     ensures shorter { OnOk result (length tokens.new.items < length tokens.old.items) }
 {
     let targets = listed::<B>(tokens, BIT_OR)?;

@@ -19,7 +19,7 @@ use starlark_rulebook::rule::Rule;
 
 /// An expression of a level, or several with commas between: those of a list without brackets. Behind it no comma stands.
 #[cycle(expression)]
-pub(crate) fn listed<B: Build>(tokens: &mut Tokens<'_>, level: u8) -> Result<B::Expr, Error>
+pub(crate) fn listed<B: Build>(tokens: &mut Tokens, level: u8) -> Result<B::Expr, Error>
     requires { level ≤ 12 }
     ensures reads { (d : Dialect) (k : Unbracketed) → level_of (kind_within k) ≡ level → Comes d (wants_first k) (λ x. has (B.means x) tokens.new.last (one_of k tree.none (start tokens.old.items))) tokens.old result tokens.new }
     ensures ends { OnOk result (first_lexeme tokens.new.items ≢ Some comma) }
@@ -33,7 +33,7 @@ pub(crate) fn listed<B: Build>(tokens: &mut Tokens<'_>, level: u8) -> Result<B::
 /// The same behind its first expression, which begins at `begin`.
 #[cycle(expression)]
 pub(crate) fn listed_behind<B: Build>(
-    tokens: &mut Tokens<'_>,
+    tokens: &mut Tokens,
     level: u8,
     begin: Pos,
     first: B::Expr,

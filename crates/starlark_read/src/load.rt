@@ -22,7 +22,7 @@ use starlark_rulebook::rule::Rule;
 use std::alloc::AllocError;
 
 /// A load behind its first word, which begins at `begin`.
-pub(crate) fn load<B: Build>(tokens: &mut Tokens<'_>, begin: Pos) -> Result<B::Stmt, Error>
+pub(crate) fn load<B: Build>(tokens: &mut Tokens, begin: Pos) -> Result<B::Stmt, Error>
     ensures reads { (d : Dialect) (k : Line) → Comes d (load_opens begin k) (λ x. behind_small (B.says x) k) tokens.old result tokens.new }
     ensures shorter { OnOk result (length tokens.new.items ≤ length tokens.old.items) }
 {
@@ -40,7 +40,7 @@ pub(crate) fn load<B: Build>(tokens: &mut Tokens<'_>, begin: Pos) -> Result<B::S
 }
 
 /// The symbols of a load with the commas behind them, and its closing parenthesis.
-fn symbols(tokens: &mut Tokens<'_>) -> Result<Vec<LoadArgP<AstNoPayload>>, Error>
+fn symbols(tokens: &mut Tokens) -> Result<Vec<LoadArgP<AstNoPayload>>, Error>
     ensures reads { (d : Dialect) (p : ℕ) (m : Name) (k : Line) → Comes d (load_symbol p m no_symbols k) (λ xs. behind_small (load m (symbols_of symbol_at xs.items) (stretch p tokens.new.last)) k) tokens.old result tokens.new }
     ensures shorter { OnOk result (length tokens.new.items < length tokens.old.items) }
 {
@@ -92,7 +92,7 @@ fn maybe_comma(comma: Option<Span>) -> Option<Spanned<Comma>>
 }
 
 /// The name that a symbol binds, and the one that it has in the other module, where no closing parenthesis stands.
-fn names(tokens: &mut Tokens<'_>) -> Result<(Spanned<String>, Spanned<String>), Error>
+fn names(tokens: &mut Tokens) -> Result<(Spanned<String>, Spanned<String>), Error>
     ensures reads { (d : Dialect) (p : ℕ) (m : Name) (ss : Symbols) (k : Line) → first_lexeme tokens.old.items ≢ Some closing_round → Comes d (load_symbol p m ss k) (λ x. load_behind p m ss (symbol (name_at (string_bytes x.0.node) x.0.span) (name_at (string_bytes x.1.node) x.1.span)) k) tokens.old result tokens.new }
     ensures shorter { OnOk result (length tokens.new.items < length tokens.old.items) }
 {
@@ -116,7 +116,7 @@ fn names(tokens: &mut Tokens<'_>) -> Result<(Spanned<String>, Spanned<String>), 
 }
 
 /// A literal of text, if one stands ahead, with its place.
-fn text(tokens: &mut Tokens<'_>) -> Result<Option<Spanned<String>>, AllocError>
+fn text(tokens: &mut Tokens) -> Result<Option<Spanned<String>>, AllocError>
     ensures { IfOk result (λ o. MatchOption o ((tokens.new ≡ tokens.old) × (string_ahead tokens.old.items ≡ None)) (λ s. (s.span ≡ stretch (start tokens.old.items) tokens.new.last) × Passes tokens.old (item (start tokens.old.items) (string (string_bytes s.node)) tokens.new.last) tokens.new)) }
 {
     let begin = tokens.begin();

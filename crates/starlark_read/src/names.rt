@@ -11,7 +11,7 @@ use starlark_place::pos::Spanned;
 use std::alloc::AllocError;
 
 /// An identifier, if one stands ahead, with its place.
-pub(crate) fn name(tokens: &mut Tokens<'_>) -> Result<Option<Spanned<String>>, AllocError>
+pub(crate) fn name(tokens: &mut Tokens) -> Result<Option<Spanned<String>>, AllocError>
     ensures { IfOk result (λ o. MatchOption o ((tokens.new ≡ tokens.old) × (name_ahead tokens.old.items ≡ None)) (λ s. (s.span ≡ stretch (start tokens.old.items) tokens.new.last) × Passes tokens.old (item (start tokens.old.items) (identifier (string_bytes s.node)) tokens.new.last) tokens.new)) }
 {
     let begin = tokens.begin();

@@ -22,7 +22,7 @@ use starlark_place::pos::Span;
 /// The operators of the levels from `floor` to `level`, with their right sides, behind an expression.
 #[cycle(expression)]
 pub(crate) fn operators<B: Build>(
-    tokens: &mut Tokens<'_>,
+    tokens: &mut Tokens,
     left: B::Expr,
     floor: u8,
     level: u8,
@@ -56,7 +56,7 @@ pub(crate) fn operators<B: Build>(
 
 // the condition and what is there without it, behind the `if`
 #[cycle(expression)]
-fn choice<B: Build>(tokens: &mut Tokens<'_>, value: B::Expr) -> Result<B::Expr, Error>
+fn choice<B: Build>(tokens: &mut Tokens, value: B::Expr) -> Result<B::Expr, Error>
     ensures reads { (d : Dialect) (k : Frames) → Comes d (wants 11 (inside (condition (B.means value)) k)) (λ x. has (B.means x) tokens.new.last k) tokens.old result tokens.new }
     ensures shorter { OnOk result (length tokens.new.items < length tokens.old.items) }
 {
@@ -68,7 +68,7 @@ fn choice<B: Build>(tokens: &mut Tokens<'_>, value: B::Expr) -> Result<B::Expr, 
 }
 
 // an operator whose right side is of that level
-fn operator(tokens: &mut Tokens<'_>, level: u8) -> Result<BinOp, Error>
+fn operator(tokens: &mut Tokens, level: u8) -> Result<BinOp, Error>
     requires ahead { grade_ahead tokens.old.items ≡ suc level }
     requires binary { level < 11 }
     ensures reads { (d : Dialect) (q : tree.Expr) (e : ℕ) (k : Frames) → Comes d (has q e (tail (suc level) k)) (λ o. wants level (inside (operand q o) (if associates (suc level) then tail (suc level) k else k))) tokens.old result tokens.new }
@@ -86,7 +86,7 @@ fn operator(tokens: &mut Tokens<'_>, level: u8) -> Result<BinOp, Error>
 }
 
 // the operator that stands ahead, one of a single token
-fn operator_ahead(tokens: &Tokens<'_>) -> Option<BinOp>
+fn operator_ahead(tokens: &Tokens) -> Option<BinOp>
     ensures { result ≡ operator_ahead tokens.now.items }
 {
     match tokens.kind() {

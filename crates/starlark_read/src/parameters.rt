@@ -21,9 +21,7 @@ use starlark_place::pos::Pos;
 
 /// The parameters of a lambda, with the colon behind them.
 #[cycle(expression)]
-pub(crate) fn lambda_parameters<B: Build>(
-    tokens: &mut Tokens<'_>,
-) -> Result<Vec<B::Parameter>, Error>
+pub(crate) fn lambda_parameters<B: Build>(tokens: &mut Tokens) -> Result<Vec<B::Parameter>, Error>
     ensures reads { (d : Dialect) (b : ℕ) (k : Frames) → Comes d (stands (member_wanted (before_body b) tree.none false 0 0) k) (λ ps. wants 12 (inside (body (members B.parameter_means ps.items) b) k)) tokens.old result tokens.new }
     ensures shorter { OnOk result (length tokens.new.items < length tokens.old.items) }
 {
@@ -48,7 +46,7 @@ pub(crate) fn lambda_parameters<B: Build>(
 
 /// A parameter or a marker, where no colon stands.
 #[cycle(expression)]
-fn parameter<B: Build>(tokens: &mut Tokens<'_>) -> Result<B::Parameter, Error>
+fn parameter<B: Build>(tokens: &mut Tokens) -> Result<B::Parameter, Error>
     ensures reads { (d : Dialect) (b : ℕ) (ms : tree.Members) (t : Bool) (e f : ℕ) (k : Frames) → first_lexeme tokens.old.items ≢ Some colon → Comes d (stands (member_wanted (before_body b) ms t e f) k) (λ x. stands (member_read (before_body b) (tree.more ms (B.parameter_means x)) tokens.new.last (first_at ms f (start tokens.old.items))) k) tokens.old result tokens.new }
     ensures shorter { OnOk result (length tokens.new.items < length tokens.old.items) }
 {
@@ -80,7 +78,7 @@ fn parameter<B: Build>(tokens: &mut Tokens<'_>) -> Result<B::Parameter, Error>
 }
 
 /// A parameter behind its `*`, or the marker that this is.
-fn starred<B: Build>(tokens: &mut Tokens<'_>, begin: Pos) -> Result<B::Parameter, Error>
+fn starred<B: Build>(tokens: &mut Tokens, begin: Pos) -> Result<B::Parameter, Error>
     ensures reads { (d : Dialect) (b : ℕ) (ms : tree.Members) (f : ℕ) (k : Frames) → Comes d (stands (star_read b ms f begin tokens.old.last) k) (λ x. stands (member_read (before_body b) (tree.more ms (B.parameter_means x)) tokens.new.last f) k) tokens.old result tokens.new }
     ensures shorter { OnOk result (length tokens.new.items ≤ length tokens.old.items) }
 {

@@ -28,23 +28,23 @@ use std::alloc::Global;
 /// until then. What was told before is gone.
 pub fn read<B: Build>(
     alloc: Global,
-    lexer: Lexer<'_>,
+    lexer: Lexer,
     dialect: &Dialect,
     told: &mut Told,
 ) -> Result<B::Stmt, Refused>
-    ensures whole { IfOk result (λ x. (lexer.entry.left.fault ≡ None) × IsProgram dialect.now (uncommented lexer.entry.left).items (B.says x)) }
-    ensures refused { (e : Refused) (f : Fault) → result ≡ Err e → fault_of e ≡ Some f → IsRefusal dialect.now (uncommented lexer.entry.left) f }
-    ensures language { (text : List ℕ) → Lex start text lexer.entry.left → IfOk result (λ x. Language dialect.now text (B.says x)) }
-    ensures reason { (text : List ℕ) (e : Refused) (f : Fault) → Lex start text lexer.entry.left → result ≡ Err e → fault_of e ≡ Some f → IsRefused dialect.now text f }
-    ensures comments { IfOk result (λ x. told.new.comments.places.items ≡ comments_in lexer.entry.left.items) }
-    ensures joined { IfOk result (λ x. told.new.comments.joined.items ≡ joined_in false lexer.entry.left.items) }
+    ensures whole { IfOk result (λ x. (lexer.left.fault ≡ None) × IsProgram dialect.now (uncommented lexer.left).items (B.says x)) }
+    ensures refused { (e : Refused) (f : Fault) → result ≡ Err e → fault_of e ≡ Some f → IsRefusal dialect.now (uncommented lexer.left) f }
+    ensures language { (text : List ℕ) → Lex start text lexer.left → IfOk result (λ x. Language dialect.now text (B.says x)) }
+    ensures reason { (text : List ℕ) (e : Refused) (f : Fault) → Lex start text lexer.left → result ≡ Err e → fault_of e ≡ Some f → IsRefused dialect.now text f }
+    ensures comments { IfOk result (λ x. told.new.comments.places.items ≡ comments_in lexer.left.items) }
+    ensures joined { IfOk result (λ x. told.new.comments.joined.items ≡ joined_in false lexer.left.items) }
     ensures bare { IsErr result → (told.new.comments.places.items ≡ []) × (told.new.comments.joined.items ≡ []) }
-    ensures asks { IfOk result (λ x. told.new.cost.asks ≡ counted (suc (length lexer.entry.left.items))) }
-    ensures reads { IfOk result (λ x. last_end 0 (uncommented lexer.entry.left).items ≤ told.new.cost.reads) }
-    ensures bounded { IfOk result (λ x. told.new.cost.reads ≤ 16 * lexer.entry.size + 16) }
-    ensures asked { IfErr result (λ e. fault_of e ≢ None → suc (length lexer.entry.left.items) < 18446744073709551615 → told.new.cost.asks ≡ asked dialect.now lexer.entry.left) }
-    ensures reached { IfErr result (λ e. fault_of e ≢ None → reached dialect.now (uncommented lexer.entry.left).items ≤ told.new.cost.reads) }
-    ensures spent { IfErr result (λ e. fault_of e ≢ None → told.new.cost.reads ≤ 16 * lexer.entry.size + 16) }
+    ensures asks { IfOk result (λ x. told.new.cost.asks ≡ counted (suc (length lexer.left.items))) }
+    ensures reads { IfOk result (λ x. last_end 0 (uncommented lexer.left).items ≤ told.new.cost.reads) }
+    ensures bounded { IfOk result (λ x. told.new.cost.reads ≤ 16 * lexer.size + 16) }
+    ensures asked { IfErr result (λ e. fault_of e ≢ None → suc (length lexer.left.items) < 18446744073709551615 → told.new.cost.asks ≡ asked dialect.now lexer.left) }
+    ensures reached { IfErr result (λ e. fault_of e ≢ None → reached dialect.now (uncommented lexer.left).items ≤ told.new.cost.reads) }
+    ensures spent { IfErr result (λ e. fault_of e ≢ None → told.new.cost.reads ≤ 16 * lexer.size + 16) }
 {
     *told = Told::nothing(alloc);
     let mut feed = Feed::new(alloc, lexer);
@@ -65,7 +65,7 @@ pub fn read<B: Build>(
 }
 
 /// The tree of all tokens, or why there is none.
-fn program<B: Build>(tokens: &mut Tokens<'_>, dialect: &Dialect) -> Result<B::Stmt, Refused>
+fn program<B: Build>(tokens: &mut Tokens, dialect: &Dialect) -> Result<B::Stmt, Refused>
     ensures whole { (l : Lexed) (us : List Item) (a : Aside) → tokens.old ≡ left_of 0 l us a → IfOk result (λ x. (l.fault ≡ None) × IsProgram dialect.now l.items (B.says x)) }
     ensures refused { (l : Lexed) (us : List Item) (a : Aside) → tokens.old ≡ left_of 0 l us a → (e : Refused) (f : Fault) → result ≡ Err e → fault_of e ≡ Some f → IsRefusal dialect.now l f }
     ensures ended { IfOk result (λ x. (tokens.new.items ≡ []) × SameEnd tokens.old tokens.new) }
@@ -73,7 +73,7 @@ fn program<B: Build>(tokens: &mut Tokens<'_>, dialect: &Dialect) -> Result<B::St
     ensures left { (l : Lexed) (us : List Item) (a : Aside) → tokens.old ≡ left_of 0 l us a → IfErr result (λ e. fault_of e ≢ None → length tokens.new.items ≡ left_over (answer_to dialect.now l.items)) }
     ensures reached { (l : Lexed) (us : List Item) (a : Aside) → tokens.old ≡ left_of 0 l us a → IfErr result (λ e. fault_of e ≢ None → reached dialect.now l.items ≤ end_ahead tokens.new.last tokens.new.items) }
 {
-    let TopStatements { items, are_clean } = match statements::<B>(tokens, dialect) {
+    let TopStatements { items, are_clean } = match statements::<B>(tokens, *dialect) {
         Ok(statements) => statements,
         Err(Error::Unexpected) => return Err(tokens.refusal()),
         Err(Error::Broken(rule)) => return Err(Refused::Rule(rule)),

@@ -19,8 +19,8 @@ use starlark_lexer::dialect::Dialect;
 
 /// Small statements with semicolons between, and the end of their line: one alone is itself, several are a list. A list
 /// is made for several only.
-pub(crate) fn row<B: Build>(tokens: &mut Tokens<'_>, dialect: &Dialect) -> Result<B::Stmt, Error>
-    ensures reads { (k : Rows) → first_lexeme tokens.old.items ≢ Some newline → Comes dialect.now (wants_small (line no_statements k)) (λ x. end_row k (B.says x) tokens.new.last) tokens.old result tokens.new }
+pub(crate) fn row<B: Build>(tokens: &mut Tokens, dialect: Dialect) -> Result<B::Stmt, Error>
+    ensures reads { (k : Rows) → first_lexeme tokens.old.items ≢ Some newline → Comes dialect (wants_small (line no_statements k)) (λ x. end_row k (B.says x) tokens.new.last) tokens.old result tokens.new }
     ensures shorter { OnOk result (length tokens.new.items < length tokens.old.items) }
 {
     let first = small::<B>(tokens, dialect)?;
@@ -40,7 +40,7 @@ pub(crate) fn row<B: Build>(tokens: &mut Tokens<'_>, dialect: &Dialect) -> Resul
 
 /// What stands behind a small statement: the end of its line, a semicolon before it or not, or else a semicolon, with
 /// which the line goes on.
-fn row_ends(tokens: &mut Tokens<'_>) -> Result<bool, Error>
+fn row_ends(tokens: &mut Tokens) -> Result<bool, Error>
     ensures reads { (d : Dialect) (s : Statement) (ss : Sequence) (k : Rows) → Comes d (behind_small s (line ss k)) (λ ends. if ends then end_row k (block_of (add_statement ss s) tokens.new.last) tokens.new.last else wants_small (line (add_statement ss s) k)) tokens.old result tokens.new }
     ensures goes_on { IfOk result (λ ends. ends ≡ false → first_lexeme tokens.new.items ≢ Some newline) }
     ensures shorter { OnOk result (length tokens.new.items ≤ length tokens.old.items) }

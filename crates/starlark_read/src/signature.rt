@@ -25,10 +25,10 @@ use starlark_place::pos::{Pos, Spanned};
 
 /// The parameters of a `def`, with the brackets around them.
 pub(crate) fn def_parameters<B: Build>(
-    tokens: &mut Tokens<'_>,
-    dialect: &Dialect,
+    tokens: &mut Tokens,
+    dialect: Dialect,
 ) -> Result<Vec<B::Parameter>, Error>
-    ensures reads { (h : Head) → Comes dialect.now (def_opens h) (λ ps. wants_result h (members B.parameter_means ps.items)) tokens.old result tokens.new }
+    ensures reads { (h : Head) → Comes dialect (def_opens h) (λ ps. wants_result h (members B.parameter_means ps.items)) tokens.old result tokens.new }
     ensures shorter { OnOk result (length tokens.new.items < length tokens.old.items) }
 {
     tokens.expect(Kind::OpeningRound)?;
@@ -45,8 +45,8 @@ pub(crate) fn def_parameters<B: Build>(
 }
 
 /// A parameter or a marker, where no bracket closes.
-fn parameter<B: Build>(tokens: &mut Tokens<'_>, dialect: &Dialect) -> Result<B::Parameter, Error>
-    ensures reads { (h : Head) (ps : tree.Members) → first_lexeme tokens.old.items ≢ Some closing_round → Comes dialect.now (wants_param h ps) (λ x. behind_param h (tree.more ps (B.parameter_means x))) tokens.old result tokens.new }
+fn parameter<B: Build>(tokens: &mut Tokens, dialect: Dialect) -> Result<B::Parameter, Error>
+    ensures reads { (h : Head) (ps : tree.Members) → first_lexeme tokens.old.items ≢ Some closing_round → Comes dialect (wants_param h ps) (λ x. behind_param h (tree.more ps (B.parameter_means x))) tokens.old result tokens.new }
     ensures shorter { OnOk result (length tokens.new.items < length tokens.old.items) }
 {
     let begin = tokens.begin();
@@ -67,11 +67,11 @@ fn parameter<B: Build>(tokens: &mut Tokens<'_>, dialect: &Dialect) -> Result<B::
 
 /// A parameter behind its `*`, or the marker that this is.
 fn starred<B: Build>(
-    tokens: &mut Tokens<'_>,
-    dialect: &Dialect,
+    tokens: &mut Tokens,
+    dialect: Dialect,
     begin: Pos,
 ) -> Result<B::Parameter, Error>
-    ensures reads { (h : Head) (ps : tree.Members) → Comes dialect.now (behind_star h ps begin tokens.old.last) (λ x. behind_param h (tree.more ps (B.parameter_means x))) tokens.old result tokens.new }
+    ensures reads { (h : Head) (ps : tree.Members) → Comes dialect (behind_star h ps begin tokens.old.last) (λ x. behind_param h (tree.more ps (B.parameter_means x))) tokens.old result tokens.new }
     ensures shorter { OnOk result (length tokens.new.items ≤ length tokens.old.items) }
 {
     let Some(name) = name(tokens)? else {
@@ -84,11 +84,11 @@ fn starred<B: Build>(
 
 /// A parameter behind its `**`.
 fn double_starred<B: Build>(
-    tokens: &mut Tokens<'_>,
-    dialect: &Dialect,
+    tokens: &mut Tokens,
+    dialect: Dialect,
     begin: Pos,
 ) -> Result<B::Parameter, Error>
-    ensures reads { (h : Head) (ps : tree.Members) → Comes dialect.now (behind_stars h ps begin) (λ x. behind_param h (tree.more ps (B.parameter_means x))) tokens.old result tokens.new }
+    ensures reads { (h : Head) (ps : tree.Members) → Comes dialect (behind_stars h ps begin) (λ x. behind_param h (tree.more ps (B.parameter_means x))) tokens.old result tokens.new }
     ensures shorter { OnOk result (length tokens.new.items ≤ length tokens.old.items) }
 {
     let Some(name) = name(tokens)? else {
@@ -101,12 +101,12 @@ fn double_starred<B: Build>(
 
 /// A parameter without stars, behind its name.
 fn plain<B: Build>(
-    tokens: &mut Tokens<'_>,
-    dialect: &Dialect,
+    tokens: &mut Tokens,
+    dialect: Dialect,
     begin: Pos,
     name: Spanned<String>,
 ) -> Result<B::Parameter, Error>
-    ensures reads { (h : Head) (ps : tree.Members) → Comes dialect.now (behind_name h ps tree.plain (tree.name_at (string_bytes name.node) name.span) begin tokens.old.last) (λ x. behind_param h (tree.more ps (B.parameter_means x))) tokens.old result tokens.new }
+    ensures reads { (h : Head) (ps : tree.Members) → Comes dialect (behind_name h ps tree.plain (tree.name_at (string_bytes name.node) name.span) begin tokens.old.last) (λ x. behind_param h (tree.more ps (B.parameter_means x))) tokens.old result tokens.new }
     ensures shorter { OnOk result (length tokens.new.items ≤ length tokens.old.items) }
 {
     let ty = annotation::<B>(tokens, dialect)?;
@@ -116,12 +116,9 @@ fn plain<B: Build>(
 }
 
 /// The type of a parameter behind its name, if one is written.
-fn annotation<B: Build>(
-    tokens: &mut Tokens<'_>,
-    dialect: &Dialect,
-) -> Result<Option<B::Type>, Error>
-    ensures reads { (h : Head) (ps : tree.Members) (y : tree.Stars) (n : tree.Name) (p : ℕ) → Comes dialect.now (behind_name h ps y n p tokens.old.last) (λ t. behind_type h ps y n p (annotation_of B.type_means t) tokens.new.last) tokens.old result tokens.new }
-    ensures whole { IfOk result (λ t. IsWhole dialect.now (annotation_of B.type_means t) tokens.new.items) }
+fn annotation<B: Build>(tokens: &mut Tokens, dialect: Dialect) -> Result<Option<B::Type>, Error>
+    ensures reads { (h : Head) (ps : tree.Members) (y : tree.Stars) (n : tree.Name) (p : ℕ) → Comes dialect (behind_name h ps y n p tokens.old.last) (λ t. behind_type h ps y n p (annotation_of B.type_means t) tokens.new.last) tokens.old result tokens.new }
+    ensures whole { IfOk result (λ t. IsWhole dialect (annotation_of B.type_means t) tokens.new.items) }
     ensures shorter { OnOk result (length tokens.new.items ≤ length tokens.old.items) }
 {
     if tokens.accept(Kind::Colon)? {
@@ -132,7 +129,7 @@ fn annotation<B: Build>(
 }
 
 /// The default of a parameter without stars, if one is written.
-fn default_value<B: Build>(tokens: &mut Tokens<'_>) -> Result<Option<B::Expr>, Error>
+fn default_value<B: Build>(tokens: &mut Tokens) -> Result<Option<B::Expr>, Error>
     ensures reads { (d : Dialect) (h : Head) (ps : tree.Members) (n : tree.Name) (t : tree.Annotation) (p : ℕ) → IsWhole d t tokens.old.items → Comes d (behind_type h ps tree.plain n p t tokens.old.last) (λ q. behind_param h (tree.more ps (named tree.plain n t (bound_of B.means q) (stretch p tokens.new.last)))) tokens.old result tokens.new }
     ensures shorter { OnOk result (length tokens.new.items ≤ length tokens.old.items) }
 {
@@ -145,10 +142,10 @@ fn default_value<B: Build>(tokens: &mut Tokens<'_>) -> Result<Option<B::Expr>, E
 
 /// The type of what a `def` returns, if one is written, and the colon.
 pub(crate) fn result_type<B: Build>(
-    tokens: &mut Tokens<'_>,
-    dialect: &Dialect,
+    tokens: &mut Tokens,
+    dialect: Dialect,
 ) -> Result<Option<B::Type>, Error>
-    ensures reads { (h : Head) (ps : tree.Members) → Comes dialect.now (wants_result h ps) (λ t. wants_suite (of_def h ps (annotation_of B.type_means t))) tokens.old result tokens.new }
+    ensures reads { (h : Head) (ps : tree.Members) → Comes dialect (wants_result h ps) (λ t. wants_suite (of_def h ps (annotation_of B.type_means t))) tokens.old result tokens.new }
     ensures shorter { OnOk result (length tokens.new.items < length tokens.old.items) }
 {
     if tokens.accept(Kind::Colon)? {

@@ -22,7 +22,7 @@ use starlark_grammar::make::Sign;
 use starlark_place::pos::Pos;
 
 /// A sign, where one stands ahead: what is behind it is of that level.
-pub(crate) fn sign(tokens: &mut Tokens<'_>, level: u8) -> Result<Sign, Error>
+pub(crate) fn sign(tokens: &mut Tokens, level: u8) -> Result<Sign, Error>
     requires ahead { begins_ahead tokens.old.items ≡ level }
     requires some { 0 < level }
     requires no_lambda { first_lexeme tokens.old.items ≢ Some keyword_lambda }
@@ -37,7 +37,7 @@ pub(crate) fn sign(tokens: &mut Tokens<'_>, level: u8) -> Result<Sign, Error>
 }
 
 // the sign that stands ahead
-fn sign_ahead(tokens: &Tokens<'_>) -> Option<Sign>
+fn sign_ahead(tokens: &Tokens) -> Option<Sign>
     ensures { maybe_sign result ≡ sign_ahead tokens.now.items }
 {
     match tokens.kind() {
@@ -51,7 +51,7 @@ fn sign_ahead(tokens: &Tokens<'_>) -> Option<Sign>
 
 /// The level of the sign or the lambda that stands ahead, or `PRIMARY` where none stands there that an expression of a
 /// level begins with.
-pub(crate) fn level_ahead(tokens: &Tokens<'_>, level: u8) -> u8
+pub(crate) fn level_ahead(tokens: &Tokens, level: u8) -> u8
     ensures none { result ≡ 0 → (begins_ahead tokens.now.items ≡ 0) ⊎ (level < begins_ahead tokens.now.items) }
     ensures some { result ≢ 0 → (begins_ahead tokens.now.items ≡ result) × (result ≤ level) }
 {
@@ -60,7 +60,7 @@ pub(crate) fn level_ahead(tokens: &Tokens<'_>, level: u8) -> u8
 }
 
 // the level of the sign or the lambda that stands ahead, or `PRIMARY`
-fn begins_at(tokens: &Tokens<'_>) -> u8
+fn begins_at(tokens: &Tokens) -> u8
     ensures { result ≡ begins_ahead tokens.now.items }
 {
     match tokens.kind() {
@@ -74,7 +74,7 @@ fn begins_at(tokens: &Tokens<'_>) -> u8
 /// What a sign that begins there stands before, an expression of that level.
 #[cycle(expression)]
 pub(crate) fn signed<B: Build>(
-    tokens: &mut Tokens<'_>,
+    tokens: &mut Tokens,
     begin: Pos,
     sign: Sign,
     level: u8,
@@ -90,7 +90,7 @@ pub(crate) fn signed<B: Build>(
 
 /// The parameters and the body of a lambda that begins there.
 #[cycle(expression)]
-pub(crate) fn lambda<B: Build>(tokens: &mut Tokens<'_>, begin: Pos) -> Result<B::Expr, Error>
+pub(crate) fn lambda<B: Build>(tokens: &mut Tokens, begin: Pos) -> Result<B::Expr, Error>
     ensures reads { (d : Dialect) (k : Frames) → Comes d (stands (member_wanted (before_body begin) tree.none false 0 0) k) (λ x. has (B.means x) tokens.new.last k) tokens.old result tokens.new }
     ensures shorter { OnOk result (length tokens.new.items < length tokens.old.items) }
 {

@@ -18,8 +18,8 @@ use starlark_lexer::dialect::Dialect;
 use starlark_place::pos::Pos;
 
 /// A small statement. Behind it nothing goes on with it.
-pub(crate) fn small<B: Build>(tokens: &mut Tokens<'_>, dialect: &Dialect) -> Result<B::Stmt, Error>
-    ensures reads { (k : Line) → first_lexeme tokens.old.items ≢ Some newline → Comes dialect.now (wants_small k) (λ x. behind_small (B.says x) k) tokens.old result tokens.new }
+pub(crate) fn small<B: Build>(tokens: &mut Tokens, dialect: Dialect) -> Result<B::Stmt, Error>
+    ensures reads { (k : Line) → first_lexeme tokens.old.items ≢ Some newline → Comes dialect (wants_small k) (λ x. behind_small (B.says x) k) tokens.old result tokens.new }
     ensures shorter { OnOk result (length tokens.new.items < length tokens.old.items) }
 {
     let begin = tokens.begin();
@@ -42,7 +42,7 @@ pub(crate) fn small<B: Build>(tokens: &mut Tokens<'_>, dialect: &Dialect) -> Res
 }
 
 // what stands behind a `return` that begins there
-fn behind_return<B: Build>(tokens: &mut Tokens<'_>, begin: Pos) -> Result<B::Stmt, Error>
+fn behind_return<B: Build>(tokens: &mut Tokens, begin: Pos) -> Result<B::Stmt, Error>
     ensures reads { (d : Dialect) (k : Line) → Comes d (behind_return begin tokens.old.last k) (λ x. behind_small (B.says x) k) tokens.old result tokens.new }
     ensures shorter { OnOk result (length tokens.new.items ≤ length tokens.old.items) }
 {

@@ -18,11 +18,8 @@ use starlark_lexer::dialect::Dialect;
 
 /// A statement with the end of its last line, where a token stands that is no `Newline` and no `Dedent`.
 #[cycle(statement)]
-pub(crate) fn statement<B: Build>(
-    tokens: &mut Tokens<'_>,
-    dialect: &Dialect,
-) -> Result<B::Stmt, Error>
-    ensures reads { (k : Blocks) (e : ℕ) → first_lexeme tokens.old.items ≢ None → first_lexeme tokens.old.items ≢ Some newline → first_lexeme tokens.old.items ≢ Some dedent → Comes dialect.now (at_line k e) (λ x. at_line (push k (B.says x)) tokens.new.last) tokens.old result tokens.new }
+pub(crate) fn statement<B: Build>(tokens: &mut Tokens, dialect: Dialect) -> Result<B::Stmt, Error>
+    ensures reads { (k : Blocks) (e : ℕ) → first_lexeme tokens.old.items ≢ None → first_lexeme tokens.old.items ≢ Some newline → first_lexeme tokens.old.items ≢ Some dedent → Comes dialect (at_line k e) (λ x. at_line (push k (B.says x)) tokens.new.last) tokens.old result tokens.new }
     ensures shorter { OnOk result (length tokens.new.items < length tokens.old.items) }
 {
     let begin = tokens.begin();

@@ -26,12 +26,12 @@ pub(crate) struct TopStatements<S> {
 /// The statements of a text, up to its end or to the lexer's fault. Each is looked at as soon as it is read, while it is
 /// at hand: a tree that has grown large is slow to go through.
 pub(crate) fn statements<B: Build>(
-    tokens: &mut Tokens<'_>,
-    dialect: &Dialect,
+    tokens: &mut Tokens,
+    dialect: Dialect,
 ) -> Result<TopStatements<B::Stmt>, Error>
-    ensures reads { Comes dialect.now (at_line (outer no_statements) tokens.old.last) (λ xs. at_line (outer (sequence_of B.says xs.items.items)) tokens.new.last) tokens.old result tokens.new }
+    ensures reads { Comes dialect (at_line (outer no_statements) tokens.old.last) (λ xs. at_line (outer (sequence_of B.says xs.items.items)) tokens.new.last) tokens.old result tokens.new }
     ensures whole { IfOk result (λ xs. tokens.new.items ≡ []) }
-    ensures clean { IfOk result (λ xs. xs.are_clean ≡ true → (e : ℕ) → end_finding dialect.now (block_of (sequence_of B.says xs.items.items) e) ≡ None) }
+    ensures clean { IfOk result (λ xs. xs.are_clean ≡ true → (e : ℕ) → end_finding dialect (block_of (sequence_of B.says xs.items.items) e) ≡ None) }
 {
     let mut found = Vec::new(tokens.alloc());
     let mut are_clean = true;
@@ -59,15 +59,15 @@ pub(crate) fn statements<B: Build>(
 /// Whether a statement breaks no rule that counts at the end, and those before it did not, as `before` says.
 fn still_clean<B: Build>(
     alloc: Global,
-    dialect: &Dialect,
+    dialect: Dialect,
     before: bool,
     s: &B::Stmt,
 ) -> Result<bool, AllocError>
-    ensures { IfOk result (λ b. b ≡ true → (before ≡ true) × (end_finding dialect.now (B.says s.now) ≡ None)) }
+    ensures { IfOk result (λ b. b ≡ true → (before ≡ true) × (end_finding dialect (B.says s.now) ≡ None)) }
 {
     if !before {
         return Ok(false);
     }
-    let found = B::end_fault(alloc, dialect, s)?;
+    let found = B::end_fault(alloc, &dialect, s)?;
     Ok(found.is_none())
 }

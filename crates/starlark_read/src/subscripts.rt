@@ -18,10 +18,7 @@ use starlark_grammar::build::Build;
 
 /// What stands in square brackets behind an expression, behind the opening one.
 #[cycle(expression)]
-pub(crate) fn subscript<B: Build>(
-    tokens: &mut Tokens<'_>,
-    object: B::Expr,
-) -> Result<B::Expr, Error>
+pub(crate) fn subscript<B: Build>(tokens: &mut Tokens, object: B::Expr) -> Result<B::Expr, Error>
     ensures reads { (d : Dialect) (k : Frames) → Comes d (stands (bound_wanted (B.means object) at_first) k) (λ x. has (B.means x) tokens.new.last k) tokens.old result tokens.new }
     ensures shorter { OnOk result (length tokens.new.items < length tokens.old.items) }
 {
@@ -43,7 +40,7 @@ pub(crate) fn subscript<B: Build>(
 // the second of two, behind the comma
 #[cycle(expression)]
 fn index_of_two<B: Build>(
-    tokens: &mut Tokens<'_>,
+    tokens: &mut Tokens,
     object: B::Expr,
     first: B::Expr,
 ) -> Result<B::Expr, Error>
@@ -59,7 +56,7 @@ fn index_of_two<B: Build>(
 // a slice, behind its first colon
 #[cycle(expression)]
 fn slice<B: Build>(
-    tokens: &mut Tokens<'_>,
+    tokens: &mut Tokens,
     object: B::Expr,
     from: Option<B::Expr>,
 ) -> Result<B::Expr, Error>
@@ -78,7 +75,7 @@ fn slice<B: Build>(
 // a slice, behind its second colon
 #[cycle(expression)]
 fn step<B: Build>(
-    tokens: &mut Tokens<'_>,
+    tokens: &mut Tokens,
     object: B::Expr,
     from: Option<B::Expr>,
     to: Option<B::Expr>,
@@ -94,7 +91,7 @@ fn step<B: Build>(
 
 // a bound of a slice, or none before a colon or the closing bracket
 #[cycle(expression)]
-fn bound<B: Build>(tokens: &mut Tokens<'_>) -> Result<Option<B::Expr>, Error>
+fn bound<B: Build>(tokens: &mut Tokens) -> Result<Option<B::Expr>, Error>
     ensures reads { (d : Dialect) (q : tree.Expr) (bs : Bounds) (k : Frames) → Comes d (stands (bound_wanted q bs) k) (λ o. bound_at q bs (bound_of B.means o) tokens.new.last k) tokens.old result tokens.new }
     ensures ended { IfOk result (λ o. MatchOption o ((first_lexeme tokens.new.items ≡ Some colon) ⊎ (first_lexeme tokens.new.items ≡ Some closing_square)) (λ x. ⊤)) }
     ensures shorter { OnOk result (length tokens.new.items ≤ length tokens.old.items) }

@@ -18,8 +18,8 @@ use starlark_lexer::dialect::Dialect;
 
 /// What stands behind the colon of an `if`, a `for` or a `def`: small statements on its line, or lines further in.
 #[cycle(statement)]
-pub(crate) fn suite<B: Build>(tokens: &mut Tokens<'_>, dialect: &Dialect) -> Result<B::Stmt, Error>
-    ensures reads { (k : Suites) → Comes dialect.now (wants_suite k) (λ x. close k (B.says x) tokens.new.last) tokens.old result tokens.new }
+pub(crate) fn suite<B: Build>(tokens: &mut Tokens, dialect: Dialect) -> Result<B::Stmt, Error>
+    ensures reads { (k : Suites) → Comes dialect (wants_suite k) (λ x. close k (B.says x) tokens.new.last) tokens.old result tokens.new }
     ensures shorter { OnOk result (length tokens.new.items < length tokens.old.items) }
 {
     if tokens.accept(Kind::Newline)? {
@@ -30,8 +30,8 @@ pub(crate) fn suite<B: Build>(tokens: &mut Tokens<'_>, dialect: &Dialect) -> Res
 
 /// Lines further in, behind the line end of what they belong to.
 #[cycle(statement)]
-fn indented<B: Build>(tokens: &mut Tokens<'_>, dialect: &Dialect) -> Result<B::Stmt, Error>
-    ensures reads { (k : Suites) → Comes dialect.now (wants_indent k) (λ x. close k (B.says x) tokens.new.last) tokens.old result tokens.new }
+fn indented<B: Build>(tokens: &mut Tokens, dialect: Dialect) -> Result<B::Stmt, Error>
+    ensures reads { (k : Suites) → Comes dialect (wants_indent k) (λ x. close k (B.says x) tokens.new.last) tokens.old result tokens.new }
     ensures shorter { OnOk result (length tokens.new.items < length tokens.old.items) }
 {
     while tokens.accept(Kind::Newline)? {}
@@ -41,8 +41,8 @@ fn indented<B: Build>(tokens: &mut Tokens<'_>, dialect: &Dialect) -> Result<B::S
 
 /// The statements of lines further in, one at least, with the `Dedent` behind them.
 #[cycle(statement)]
-fn lines<B: Build>(tokens: &mut Tokens<'_>, dialect: &Dialect) -> Result<B::Stmt, Error>
-    ensures reads { (k : Suites) (e : ℕ) → Comes dialect.now (at_line (inner no_statements k) e) (λ x. close k (B.says x) tokens.new.last) tokens.old result tokens.new }
+fn lines<B: Build>(tokens: &mut Tokens, dialect: Dialect) -> Result<B::Stmt, Error>
+    ensures reads { (k : Suites) (e : ℕ) → Comes dialect (at_line (inner no_statements k) e) (λ x. close k (B.says x) tokens.new.last) tokens.old result tokens.new }
     ensures shorter { OnOk result (length tokens.new.items < length tokens.old.items) }
 {
     let mut statements = Vec::new(tokens.alloc());
@@ -64,7 +64,7 @@ fn lines<B: Build>(tokens: &mut Tokens<'_>, dialect: &Dialect) -> Result<B::Stmt
 }
 
 /// Whether the next token can begin a line, which neither a `Dedent` nor the end does.
-fn begins_line(tokens: &Tokens<'_>) -> bool
+fn begins_line(tokens: &Tokens) -> bool
     ensures { result ≡ line_ahead tokens.now.items }
 {
     match tokens.kind() {

@@ -36,16 +36,16 @@ use std::mem;
 /// The tokens that are still to be read, comments left out. A clause sees them, the fault behind them, where the last one
 /// ends that was read, and what is told of the whole text beside them.
 #[derive(Drop)]
-pub(crate) struct Tokens<'a> {
+pub(crate) struct Tokens {
     alloc: Global,
-    feed: Feed<'a>,
+    feed: Feed,
     ahead: Lookahead,
     // of what stands ahead
     kind: Kind,
     last: Pos,
 }
 
-impl<'a> Model for Tokens<'a> {
+impl Model for Tokens {
     ghost use Rattle.starlark_read.specs.Counted.{left_in, IsCounted};
     ghost use Rattle.starlark_read.specs.Reads.{Left};
 
@@ -73,11 +73,11 @@ fn kind_given(ahead: &Lookahead) -> Kind
     }
 }
 
-impl<'a> Tokens<'a> {
+impl Tokens {
     /// What the lexer gave first, and all that it has left.
-    pub(crate) fn new(alloc: Global, feed: Feed<'a>, ahead: Lookahead) -> Tokens<'a>
+    pub(crate) fn new(alloc: Global, feed: Feed, ahead: Lookahead) -> Tokens
         requires reached { ahead_end ahead ≤ feed.lexer.place }
-        ensures { result ≡ left_of 0 (with_ahead ahead (uncommented feed.entry.lexer.left)) feed.entry.lexer.left.items (aside_of ahead feed.entry) }
+        ensures { result ≡ left_of 0 (with_ahead ahead (uncommented feed.lexer.left)) feed.lexer.left.items (aside_of ahead feed) }
     {
         let kind = kind_given(&ahead);
         Tokens {
@@ -102,8 +102,8 @@ impl<'a> Tokens<'a> {
 
     /// The comments of the text, where no token is left.
     pub(crate) fn into_comments(self) -> Comments
-        ensures places { self.entry.items ≡ [] → result.places.items ≡ self.entry.aside.comments }
-        ensures joined { self.entry.items ≡ [] → result.joined.items ≡ self.entry.aside.joined }
+        ensures places { self.items ≡ [] → result.places.items ≡ self.aside.comments }
+        ensures joined { self.items ≡ [] → result.joined.items ≡ self.aside.joined }
     {
         self.feed.into_comments()
     }

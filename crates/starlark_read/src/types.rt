@@ -19,11 +19,11 @@ use starlark_rulebook::rule::Rule;
 
 /// A type, where one is wanted in a statement.
 pub(crate) fn type_expression<B: Build>(
-    tokens: &mut Tokens<'_>,
-    dialect: &Dialect,
+    tokens: &mut Tokens,
+    dialect: Dialect,
 ) -> Result<B::Type, Error>
-    ensures reads { (k : Spots) → ((q : Expr) → ended_by k q ≡ Some (typed q)) → Comes dialect.now (wants 12 (spot k)) (λ x. has (type_read (B.type_means x)) tokens.new.last (spot k)) tokens.old result tokens.new }
-    ensures right { IfOk result (λ x. IsType dialect.now (B.type_means x)) }
+    ensures reads { (k : Spots) → ((q : Expr) → ended_by k q ≡ Some (typed q)) → Comes dialect (wants 12 (spot k)) (λ x. has (type_read (B.type_means x)) tokens.new.last (spot k)) tokens.old result tokens.new }
+    ensures right { IfOk result (λ x. IsType dialect (B.type_means x)) }
     ensures shorter { OnOk result (length tokens.new.items < length tokens.old.items) }
 {
     let found = expression::<B>(tokens, TEST)?;
@@ -40,8 +40,8 @@ pub(crate) fn type_expression<B: Build>(
 }
 
 // whether a dialect has types
-fn has_types(dialect: &Dialect) -> bool
-    ensures { result ≡ has_types dialect.now.enable_types }
+fn has_types(dialect: Dialect) -> bool
+    ensures { result ≡ has_types dialect.enable_types }
 {
     match dialect.enable_types {
         DialectTypes::Disable => false,

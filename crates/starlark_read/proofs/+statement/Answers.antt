@@ -18,20 +18,20 @@ use Rattle.starlark_read.proofs.Rows.{statement_more}
 use Rattle.starlark_read.proofs.+statement.Goals as goal
 
 pub branches::branches-returns-in_err-condition-clause-reads : goal.branches::branches-returns-in_err-condition-clause-reads
-branches::branches-returns-in_err-condition-clause-reads g met c k = exits (search rules) begins (c.in_err-condition.ensures.reads c.args.dialect.now (spot (test c.args.begin k)))
+branches::branches-returns-in_err-condition-clause-reads g met c k = exits (search rules) begins (c.in_err-condition.ensures.reads c.args.dialect (spot (test c.args.begin k)))
 
 pub branches::branches-returns-in_err-expect-clause-reads : goal.branches::branches-returns-in_err-expect-clause-reads
-branches::branches-returns-in_err-expect-clause-reads g met c k = missing (search rules) c.in_err-expect.ensures.unread c.in_err-expect.ensures.no_rule (λ h. sticks ((c.in_ok-condition.ensures.reads c.args.dialect.now (spot (test c.args.begin k))).comes _ refl) (stays_there h.0 (no_test_end c.args.begin k _ _ _ h.1)))
+branches::branches-returns-in_err-expect-clause-reads g met c k = missing (search rules) c.in_err-expect.ensures.unread c.in_err-expect.ensures.no_rule (λ h. sticks ((c.in_ok-condition.ensures.reads c.args.dialect (spot (test c.args.begin k))).comes _ refl) (stays_there h.0 (no_test_end c.args.begin k _ _ _ h.1)))
 
 pub branches::branches-returns-in_err-body-clause-reads : goal.branches::branches-returns-in_err-body-clause-reads
-branches::branches-returns-in_err-body-clause-reads g met c k = exits (search rules) ((c.in_ok-condition.ensures.reads c.args.dialect.now (spot (test c.args.begin k))).comes _ refl >> goes c.in_ok-expect.ensures.read refl refl) (c.in_err-body.ensures.reads (of_if (g.B.Make.means c.in_ok-condition.condition) c.args.begin k))
+branches::branches-returns-in_err-body-clause-reads g met c k = exits (search rules) ((c.in_ok-condition.ensures.reads c.args.dialect (spot (test c.args.begin k))).comes _ refl >> goes c.in_ok-expect.ensures.read refl refl) (c.in_err-body.ensures.reads (of_if (g.B.Make.means c.in_ok-condition.condition) c.args.begin k))
 
 pub branches::branches-returns-in_err-otherwise-clause-reads : goal.branches::branches-returns-in_err-otherwise-clause-reads
 branches::branches-returns-in_err-otherwise-clause-reads g met c k =
     let q = g.B.Make.means c.in_ok-condition.condition in
     let s = g.B.Make.says c.in_ok-body.body in
     let p = c.args.begin in
-    exits (search rules) ((c.in_ok-condition.ensures.reads c.args.dialect.now (spot (test p k))).comes _ refl >> goes c.in_ok-expect.ensures.read refl refl >> (c.in_ok-body.ensures.reads (of_if q p k)).comes _ refl >> elif_begins q s p _ _ k _ _ c.begin-next.ensures (read_it _ _ keyword_elif _ c.if-branch.true c.in_ok-accept.ensures)) (c.in_err-otherwise.ensures.reads (at_elif q s p k))
+    exits (search rules) ((c.in_ok-condition.ensures.reads c.args.dialect (spot (test p k))).comes _ refl >> goes c.in_ok-expect.ensures.read refl refl >> (c.in_ok-body.ensures.reads (of_if q p k)).comes _ refl >> elif_begins q s p _ _ k _ _ c.begin-next.ensures (read_it _ _ keyword_elif _ c.if-branch.true c.in_ok-accept.ensures)) (c.in_err-otherwise.ensures.reads (at_elif q s p k))
 
 pub branches::branches-returns-then-branch-clause-reads : goal.branches::branches-returns-then-branch-clause-reads
 branches::branches-returns-then-branch-clause-reads g met c k =
@@ -39,7 +39,7 @@ branches::branches-returns-then-branch-clause-reads g met c k =
     let s = g.B.Make.says c.in_ok-body.body in
     let r = g.B.Make.says c.in_ok-otherwise.otherwise in
     let p = c.args.begin in
-    gives (settled_as k _ (either q s r (stretch p _)) ((c.in_ok-condition.ensures.reads c.args.dialect.now (spot (test p k))).comes _ refl >> goes c.in_ok-expect.ensures.read refl refl >> (c.in_ok-body.ensures.reads (of_if q p k)).comes _ refl >> elif_begins q s p _ _ k _ _ c.begin-next.ensures (read_it _ _ keyword_elif _ c.if-branch.true c.in_ok-accept.ensures) >> (c.in_ok-otherwise.ensures.reads (at_elif q s p k)).comes _ refl) (c.in_ok-if_else_statement.ensures ∙ ap (either q s r) c.since-span.ensures))
+    gives (settled_as k _ (either q s r (stretch p _)) ((c.in_ok-condition.ensures.reads c.args.dialect (spot (test p k))).comes _ refl >> goes c.in_ok-expect.ensures.read refl refl >> (c.in_ok-body.ensures.reads (of_if q p k)).comes _ refl >> elif_begins q s p _ _ k _ _ c.begin-next.ensures (read_it _ _ keyword_elif _ c.if-branch.true c.in_ok-accept.ensures) >> (c.in_ok-otherwise.ensures.reads (at_elif q s p k)).comes _ refl) (c.in_ok-if_else_statement.ensures ∙ ap (either q s r) c.since-span.ensures))
 
 pub branches::branches-returns-in_err-expect-2-clause-reads : goal.branches::branches-returns-in_err-expect-2-clause-reads
 branches::branches-returns-in_err-expect-2-clause-reads g met c k =
@@ -47,7 +47,7 @@ branches::branches-returns-in_err-expect-2-clause-reads g met c k =
     let s = g.B.Make.says c.in_ok-body.body in
     let p = c.args.begin in
     let a = left_it _ _ keyword_elif _ c.if-branch.false c.in_ok-accept.ensures in
-    missing (search rules) c.in_err-expect-2.ensures.unread c.in_err-expect-2.ensures.no_rule (λ h. sticks ((c.in_ok-condition.ensures.reads c.args.dialect.now (spot (test p k))).comes _ refl >> goes c.in_ok-expect.ensures.read refl refl >> (c.in_ok-body.ensures.reads (of_if q p k)).comes _ refl >> else_begins q s p _ k _ _ _ a.0 (read_it _ _ keyword_else _ c.if-branch-2.true c.in_ok-accept-2.ensures)) (stays_there h.0 (no_colon_next (of_else q s p k) _ h.1)))
+    missing (search rules) c.in_err-expect-2.ensures.unread c.in_err-expect-2.ensures.no_rule (λ h. sticks ((c.in_ok-condition.ensures.reads c.args.dialect (spot (test p k))).comes _ refl >> goes c.in_ok-expect.ensures.read refl refl >> (c.in_ok-body.ensures.reads (of_if q p k)).comes _ refl >> else_begins q s p _ k _ _ _ a.0 (read_it _ _ keyword_else _ c.if-branch-2.true c.in_ok-accept-2.ensures)) (stays_there h.0 (no_colon_next (of_else q s p k) _ h.1)))
 
 pub branches::branches-returns-in_err-otherwise-2-clause-reads : goal.branches::branches-returns-in_err-otherwise-2-clause-reads
 branches::branches-returns-in_err-otherwise-2-clause-reads g met c k =
@@ -55,7 +55,7 @@ branches::branches-returns-in_err-otherwise-2-clause-reads g met c k =
     let s = g.B.Make.says c.in_ok-body.body in
     let p = c.args.begin in
     let a = left_it _ _ keyword_elif _ c.if-branch.false c.in_ok-accept.ensures in
-    exits (search rules) ((c.in_ok-condition.ensures.reads c.args.dialect.now (spot (test p k))).comes _ refl >> goes c.in_ok-expect.ensures.read refl refl >> (c.in_ok-body.ensures.reads (of_if q p k)).comes _ refl >> else_begins q s p _ k _ _ _ a.0 (read_it _ _ keyword_else _ c.if-branch-2.true c.in_ok-accept-2.ensures) >> goes c.in_ok-expect-2.ensures.read refl refl) (c.in_err-otherwise-2.ensures.reads (of_else q s p k))
+    exits (search rules) ((c.in_ok-condition.ensures.reads c.args.dialect (spot (test p k))).comes _ refl >> goes c.in_ok-expect.ensures.read refl refl >> (c.in_ok-body.ensures.reads (of_if q p k)).comes _ refl >> else_begins q s p _ k _ _ _ a.0 (read_it _ _ keyword_else _ c.if-branch-2.true c.in_ok-accept-2.ensures) >> goes c.in_ok-expect-2.ensures.read refl refl) (c.in_err-otherwise-2.ensures.reads (of_else q s p k))
 
 pub branches::branches-returns-then-branch-2-clause-reads : goal.branches::branches-returns-then-branch-2-clause-reads
 branches::branches-returns-then-branch-2-clause-reads g met c k =
@@ -64,7 +64,7 @@ branches::branches-returns-then-branch-2-clause-reads g met c k =
     let r = g.B.Make.says c.in_ok-otherwise-2.otherwise in
     let p = c.args.begin in
     let a = left_it _ _ keyword_elif _ c.if-branch.false c.in_ok-accept.ensures in
-    gives (settled_as k _ (either q s r (stretch p _)) ((c.in_ok-condition.ensures.reads c.args.dialect.now (spot (test p k))).comes _ refl >> goes c.in_ok-expect.ensures.read refl refl >> (c.in_ok-body.ensures.reads (of_if q p k)).comes _ refl >> else_begins q s p _ k _ _ _ a.0 (read_it _ _ keyword_else _ c.if-branch-2.true c.in_ok-accept-2.ensures) >> goes c.in_ok-expect-2.ensures.read refl refl >> (c.in_ok-otherwise-2.ensures.reads (of_else q s p k)).comes _ refl) (c.in_ok-if_else_statement-2.ensures ∙ ap (either q s r) c.since-span-then-branch-2.ensures))
+    gives (settled_as k _ (either q s r (stretch p _)) ((c.in_ok-condition.ensures.reads c.args.dialect (spot (test p k))).comes _ refl >> goes c.in_ok-expect.ensures.read refl refl >> (c.in_ok-body.ensures.reads (of_if q p k)).comes _ refl >> else_begins q s p _ k _ _ _ a.0 (read_it _ _ keyword_else _ c.if-branch-2.true c.in_ok-accept-2.ensures) >> goes c.in_ok-expect-2.ensures.read refl refl >> (c.in_ok-otherwise-2.ensures.reads (of_else q s p k)).comes _ refl) (c.in_ok-if_else_statement-2.ensures ∙ ap (either q s r) c.since-span-then-branch-2.ensures))
 
 pub branches::branches-returns-clause-reads : goal.branches::branches-returns-clause-reads
 branches::branches-returns-clause-reads g met c k =
@@ -73,7 +73,7 @@ branches::branches-returns-clause-reads g met c k =
     let p = c.args.begin in
     let a = left_it _ _ keyword_elif _ c.if-branch.false c.in_ok-accept.ensures in
     let b = left_it _ _ keyword_else _ c.if-branch-2.false c.in_ok-accept-2.ensures in
-    gives ((c.in_ok-condition.ensures.reads c.args.dialect.now (spot (test p k))).comes _ refl >> goes c.in_ok-expect.ensures.read refl refl >> (c.in_ok-body.ensures.reads (of_if q p k)).comes _ refl >> if_is q s _ p k a b (c.in_ok-if_statement.ensures ∙ ap (when q s) c.since-span-2.ensures))
+    gives ((c.in_ok-condition.ensures.reads c.args.dialect (spot (test p k))).comes _ refl >> goes c.in_ok-expect.ensures.read refl refl >> (c.in_ok-body.ensures.reads (of_if q p k)).comes _ refl >> if_is q s _ p k a b (c.in_ok-if_statement.ensures ∙ ap (when q s) c.since-span-2.ensures))
 
 pub definition::definition-returns-in_default-clause-reads : goal.definition::definition-returns-in_default-clause-reads
 definition::definition-returns-in_default-clause-reads g met c k =
@@ -99,33 +99,33 @@ definition::definition-returns-clause-reads g met c k =
     gives (pushed_as k _ (define n ps t s (stretch p _)) (def_named p k _ _ _ _ (named _ _ _ _ c.in-Some.is c.in_ok-name.ensures) >> (c.in_ok-parameters.ensures.reads (head p n k)).comes _ refl >> (c.in_ok-ty.ensures.reads (head p n k) ps).comes _ refl >> (c.in_ok-body.ensures.reads (of_def (head p n k) ps t)).comes _ refl) (c.in_ok-def_statement.ensures ∙ ap (define n ps t s) c.since-span.ensures))
 
 pub for_loop::for_loop-returns-in_err-targets-clause-reads : goal.for_loop::for_loop-returns-in_err-targets-clause-reads
-for_loop::for_loop-returns-in_err-targets-clause-reads g met c k = exits (search rules) begins (c.in_err-targets.ensures.reads c.args.dialect.now (in_statement (target c.args.begin k)) refl)
+for_loop::for_loop-returns-in_err-targets-clause-reads g met c k = exits (search rules) begins (c.in_err-targets.ensures.reads c.args.dialect (in_statement (target c.args.begin k)) refl)
 
 pub for_loop::for_loop-returns-in_err-expect-clause-reads : goal.for_loop::for_loop-returns-in_err-expect-clause-reads
-for_loop::for_loop-returns-in_err-expect-clause-reads g met c k = missing (search rules) c.in_err-expect.ensures.unread c.in_err-expect.ensures.no_rule (λ h. sticks ((c.in_ok-targets.ensures.reads c.args.dialect.now (in_statement (target c.args.begin k)) refl).comes _ refl) (stays_there h.0 (no_target_end c.args.begin _ k _ _ _ c.in_ok-targets.ensures.ends h.1)))
+for_loop::for_loop-returns-in_err-expect-clause-reads g met c k = missing (search rules) c.in_err-expect.ensures.unread c.in_err-expect.ensures.no_rule (λ h. sticks ((c.in_ok-targets.ensures.reads c.args.dialect (in_statement (target c.args.begin k)) refl).comes _ refl) (stays_there h.0 (no_target_end c.args.begin _ k _ _ _ c.in_ok-targets.ensures.ends h.1)))
 
 pub for_loop::for_loop-returns-in_err-over-clause-reads : goal.for_loop::for_loop-returns-in_err-over-clause-reads
-for_loop::for_loop-returns-in_err-over-clause-reads g met c k = exits (search rules) ((c.in_ok-targets.ensures.reads c.args.dialect.now (in_statement (target c.args.begin k)) refl).comes _ refl >> goes c.in_ok-expect.ensures.read refl refl) (c.in_err-over.ensures.reads c.args.dialect.now (spot (source (g.B.Make.means c.in_ok-targets.targets) c.args.begin k)))
+for_loop::for_loop-returns-in_err-over-clause-reads g met c k = exits (search rules) ((c.in_ok-targets.ensures.reads c.args.dialect (in_statement (target c.args.begin k)) refl).comes _ refl >> goes c.in_ok-expect.ensures.read refl refl) (c.in_err-over.ensures.reads c.args.dialect (spot (source (g.B.Make.means c.in_ok-targets.targets) c.args.begin k)))
 
 pub for_loop::for_loop-returns-in_err-expect-2-clause-reads : goal.for_loop::for_loop-returns-in_err-expect-2-clause-reads
 for_loop::for_loop-returns-in_err-expect-2-clause-reads g met c k =
     let l = g.B.Make.means c.in_ok-targets.targets in
     let p = c.args.begin in
-    missing (search rules) c.in_err-expect-2.ensures.unread c.in_err-expect-2.ensures.no_rule (λ h. sticks ((c.in_ok-targets.ensures.reads c.args.dialect.now (in_statement (target p k)) refl).comes _ refl >> goes c.in_ok-expect.ensures.read refl refl >> (c.in_ok-over.ensures.reads c.args.dialect.now (spot (source l p k))).comes _ refl) (stays_there h.0 (no_source_end l p k _ _ _ h.1)))
+    missing (search rules) c.in_err-expect-2.ensures.unread c.in_err-expect-2.ensures.no_rule (λ h. sticks ((c.in_ok-targets.ensures.reads c.args.dialect (in_statement (target p k)) refl).comes _ refl >> goes c.in_ok-expect.ensures.read refl refl >> (c.in_ok-over.ensures.reads c.args.dialect (spot (source l p k))).comes _ refl) (stays_there h.0 (no_source_end l p k _ _ _ h.1)))
 
 pub for_loop::for_loop-returns-in_err-body-clause-reads : goal.for_loop::for_loop-returns-in_err-body-clause-reads
 for_loop::for_loop-returns-in_err-body-clause-reads g met c k =
     let l = g.B.Make.means c.in_ok-targets.targets in
     let q = g.B.Make.means c.in_ok-over.over in
     let p = c.args.begin in
-    exits (search rules) ((c.in_ok-targets.ensures.reads c.args.dialect.now (in_statement (target p k)) refl).comes _ refl >> goes c.in_ok-expect.ensures.read refl refl >> (c.in_ok-over.ensures.reads c.args.dialect.now (spot (source l p k))).comes _ refl >> goes c.in_ok-expect-2.ensures.read refl refl) (c.in_err-body.ensures.reads (of_for l q p k))
+    exits (search rules) ((c.in_ok-targets.ensures.reads c.args.dialect (in_statement (target p k)) refl).comes _ refl >> goes c.in_ok-expect.ensures.read refl refl >> (c.in_ok-over.ensures.reads c.args.dialect (spot (source l p k))).comes _ refl >> goes c.in_ok-expect-2.ensures.read refl refl) (c.in_err-body.ensures.reads (of_for l q p k))
 
 pub for_loop::for_loop-returns-in-Some-clause-reads : goal.for_loop::for_loop-returns-in-Some-clause-reads
 for_loop::for_loop-returns-in-Some-clause-reads g met c k =
     let l = g.B.Make.means c.in_ok-targets.targets in
     let q = g.B.Make.means c.in_ok-over.over in
     let p = c.args.begin in
-    halts (answers ((c.in_ok-targets.ensures.reads c.args.dialect.now (in_statement (target p k)) refl).comes _ refl >> goes c.in_ok-expect.ensures.read refl refl >> (c.in_ok-over.ensures.reads c.args.dialect.now (spot (source l p k))).comes _ refl >> goes c.in_ok-expect-2.ensures.read refl refl >> (c.in_ok-body.ensures.reads (of_for l q p k)).comes _ refl) (loop_broken l _ _ _ _ _ c.in-Some.is c.target_fault.ensures))
+    halts (answers ((c.in_ok-targets.ensures.reads c.args.dialect (in_statement (target p k)) refl).comes _ refl >> goes c.in_ok-expect.ensures.read refl refl >> (c.in_ok-over.ensures.reads c.args.dialect (spot (source l p k))).comes _ refl >> goes c.in_ok-expect-2.ensures.read refl refl >> (c.in_ok-body.ensures.reads (of_for l q p k)).comes _ refl) (loop_broken l _ _ _ _ _ c.in-Some.is c.target_fault.ensures))
 
 pub for_loop::for_loop-returns-clause-reads : goal.for_loop::for_loop-returns-clause-reads
 for_loop::for_loop-returns-clause-reads g met c k =
@@ -133,7 +133,7 @@ for_loop::for_loop-returns-clause-reads g met c k =
     let q = g.B.Make.means c.in_ok-over.over in
     let s = g.B.Make.says c.in_ok-body.body in
     let p = c.args.begin in
-    gives (pushed_as k _ (repeat (target_of l) q s (stretch p _)) ((c.in_ok-targets.ensures.reads c.args.dialect.now (in_statement (target p k)) refl).comes _ refl >> goes c.in_ok-expect.ensures.read refl refl >> (c.in_ok-over.ensures.reads c.args.dialect.now (spot (source l p k))).comes _ refl >> goes c.in_ok-expect-2.ensures.read refl refl >> (c.in_ok-body.ensures.reads (of_for l q p k)).comes _ refl >> loop_ends l _ _ _ (right_target l _ c.in_default.is c.target_fault.ensures)) (c.in_ok-for_statement.ensures ∙ ap₂ (λ y z. repeat y q s z) c.in_ok-target.ensures c.since-span.ensures))
+    gives (pushed_as k _ (repeat (target_of l) q s (stretch p _)) ((c.in_ok-targets.ensures.reads c.args.dialect (in_statement (target p k)) refl).comes _ refl >> goes c.in_ok-expect.ensures.read refl refl >> (c.in_ok-over.ensures.reads c.args.dialect (spot (source l p k))).comes _ refl >> goes c.in_ok-expect-2.ensures.read refl refl >> (c.in_ok-body.ensures.reads (of_for l q p k)).comes _ refl >> loop_ends l _ _ _ (right_target l _ c.in_default.is c.target_fault.ensures)) (c.in_ok-for_statement.ensures ∙ ap₂ (λ y z. repeat y q s z) c.in_ok-target.ensures c.since-span.ensures))
 
 pub statement::statement-returns-then-branch-clause-reads : goal.statement::statement-returns-then-branch-clause-reads
 statement::statement-returns-then-branch-clause-reads g met c k e z n d = behind_it (if_begins k e _ _ _ c.begin-begin.ensures (read_it _ _ keyword_if _ c.if-branch.true c.in_ok-accept.ensures)) (c.branches.ensures.reads (at_if k))

@@ -11,8 +11,8 @@ returns-then-is_err-clause-gives c = (over_left c.args.parts.now.margin c.args.p
 pub returns-clause-whole : goal.returns-clause-whole
 returns-clause-whole c =
     let a = c.args.parts.now in
-    let bounds = subst (Bounds (drop a.state.place a.text.now)) c.requires.is c.requires.comes.bounds in
-    mode_sound a.text.now a.state a.outer.items a.margin c.requires.whole c.args.gap a.state.mode a.state.mode bounds c.requires.whole.mode refl c.turned-parts.result c.turned-parts.ensures.value
+    let bounds = subst (Bounds (drop a.state.place a.codemap.source)) c.requires.is c.requires.comes.bounds in
+    mode_sound a.codemap.source a.state a.outer.items a.margin c.requires.whole c.args.gap a.state.mode a.state.mode bounds c.requires.whole.mode refl c.turned-parts.result c.turned-parts.ensures.value
 
 pub returns-clause-gives : goal.returns-clause-gives
 returns-clause-gives c =

@@ -11,9 +11,9 @@ returns-then-is_err-clause-gives c = (over_left c.args.parts.now.margin c.args.p
 pub returns-clause-whole : goal.returns-clause-whole
 returns-clause-whole c =
     let a = c.args.parts.now in
-    let bounds = subst (Bounds (drop a.state.place a.text.now)) c.requires.is c.requires.comes.bounds in
+    let bounds = subst (Bounds (drop a.state.place a.codemap.source)) c.requires.is c.requires.comes.bounds in
     let pushed = put c.push.result c.push.new.self.items a.outer.items (a.state.mode ∷ []) c.push.ensures.items (sym c.is_err.ensures.value ∙ c.if-is_err.false) in
-    enter_sound a.text.now a.state a.outer.items a.margin c.requires.whole c.args.len c.args.form bounds.0 bounds.1 c.turned-parts.result c.push.new.self.items c.turned-parts.ensures.value pushed
+    enter_sound a.codemap.source a.state a.outer.items a.margin c.requires.whole c.args.len c.args.form bounds.0 bounds.1 c.turned-parts.result c.push.new.self.items c.turned-parts.ensures.value pushed
 
 pub returns-clause-gives : goal.returns-clause-gives
 returns-clause-gives c =

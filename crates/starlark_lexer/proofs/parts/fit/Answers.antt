@@ -8,8 +8,8 @@ use Rattle.starlark_lexer.proofs.parts.fit.Goals as goal
 pub returns-then-closed-eq0-clause-whole : goal.returns-then-closed-eq0-clause-whole
 returns-then-closed-eq0-clause-whole c =
     let a = c.args.parts.now in
-    let bounds = subst (Bounds (drop a.state.place a.text.now)) c.requires.is c.requires.comes.bounds in
-    mode_sound a.text.now a.state a.outer.items a.margin c.requires.whole c.args.gap a.state.mode a.state.mode bounds c.requires.whole.mode refl c.turned-parts.result c.turned-parts.ensures.value
+    let bounds = subst (Bounds (drop a.state.place a.codemap.source)) c.requires.is c.requires.comes.bounds in
+    mode_sound a.codemap.source a.state a.outer.items a.margin c.requires.whole c.args.gap a.state.mode a.state.mode bounds c.requires.whole.mode refl c.turned-parts.result c.turned-parts.ensures.value
 
 pub returns-then-closed-eq0-clause-gives : goal.returns-then-closed-eq0-clause-gives
 returns-then-closed-eq0-clause-gives c =
@@ -22,9 +22,9 @@ returns-then-closed-eq0-clause-gives c =
 pub returns-clause-whole : goal.returns-clause-whole
 returns-clause-whole c =
     let a = c.args.parts.now in
-    let bounds = subst (Bounds (drop a.state.place a.text.now)) c.requires.is c.requires.comes.bounds in
-    with_margin a.text.now c.turned-parts.result a.outer.items a.margin a.state.place c.requires.whole.boundary (omega (arith, c.turned-parts.ensures.place))
-    (mode_sound a.text.now a.state a.outer.items a.margin c.requires.whole c.args.gap a.state.mode a.state.mode bounds c.requires.whole.mode refl c.turned-parts.result c.turned-parts.ensures.value)
+    let bounds = subst (Bounds (drop a.state.place a.codemap.source)) c.requires.is c.requires.comes.bounds in
+    with_margin a.codemap.source c.turned-parts.result a.outer.items a.margin a.state.place c.requires.whole.boundary (omega (arith, c.turned-parts.ensures.place))
+    (mode_sound a.codemap.source a.state a.outer.items a.margin c.requires.whole c.args.gap a.state.mode a.state.mode bounds c.requires.whole.mode refl c.turned-parts.result c.turned-parts.ensures.value)
 
 pub returns-clause-gives : goal.returns-clause-gives
 returns-clause-gives c =

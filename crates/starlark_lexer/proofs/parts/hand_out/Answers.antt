@@ -24,14 +24,14 @@ refuse-requires-in-Unfinished-clause-is c =
 pub refuse-requires-in-Unfinished-clause-stretch : goal.refuse-requires-in-Unfinished-clause-stretch
 refuse-requires-in-Unfinished-clause-stretch c =
     let a = c.args.parts.now in
-    let bounds = subst (Bounds (drop a.state.place a.text.now)) c.in-Unfinished.is c.requires.comes.bounds in
-    unfinished_stretch a.text.now a.state a.outer.items a.margin c.requires.whole c.in-Unfinished.len a.state.mode c.requires.whole.mode c.begin_of-begin.result c.begin_of-begin.ensures bounds
+    let bounds = subst (Bounds (drop a.state.place a.codemap.source)) c.in-Unfinished.is c.requires.comes.bounds in
+    unfinished_stretch a.codemap.source a.state a.outer.items a.margin c.requires.whole c.in-Unfinished.len a.state.mode c.requires.whole.mode c.begin_of-begin.result c.begin_of-begin.ensures bounds
 
 pub returns-in-Open-clause-whole : goal.returns-in-Open-clause-whole
 returns-in-Open-clause-whole c =
     let a = c.args.parts.now in
-    let bounds = subst (Bounds (drop a.state.place a.text.now)) c.in-Open.is c.requires.comes.bounds in
-    mode_sound a.text.now a.state a.outer.items a.margin c.requires.whole 1 c.field_of.result (field_of a.state.mode) bounds (field_mode a.text.now a.state.place a.state.mode c.requires.whole.mode) c.field_of.ensures c.turned-parts.result c.turned-parts.ensures.value
+    let bounds = subst (Bounds (drop a.state.place a.codemap.source)) c.in-Open.is c.requires.comes.bounds in
+    mode_sound a.codemap.source a.state a.outer.items a.margin c.requires.whole 1 c.field_of.result (field_of a.state.mode) bounds (field_mode a.codemap.source a.state.place a.state.mode c.requires.whole.mode) c.field_of.ensures c.turned-parts.result c.turned-parts.ensures.value
 
 pub returns-in-Open-clause-gives : goal.returns-in-Open-clause-gives
 returns-in-Open-clause-gives c =
@@ -42,8 +42,8 @@ returns-in-Open-clause-gives c =
 pub returns-in-Shut-clause-whole : goal.returns-in-Shut-clause-whole
 returns-in-Shut-clause-whole c =
     let a = c.args.parts.now in
-    let bounds = subst (Bounds (drop a.state.place a.text.now)) c.in-Shut.is c.requires.comes.bounds in
-    mode_sound a.text.now a.state a.outer.items a.margin c.requires.whole 1 c.body_of.result (body_of a.state.mode) bounds (body_mode a.text.now a.state.place a.state.mode c.requires.whole.mode) c.body_of.ensures c.turned-parts-in-Shut.result c.turned-parts-in-Shut.ensures.value
+    let bounds = subst (Bounds (drop a.state.place a.codemap.source)) c.in-Shut.is c.requires.comes.bounds in
+    mode_sound a.codemap.source a.state a.outer.items a.margin c.requires.whole 1 c.body_of.result (body_of a.state.mode) bounds (body_mode a.codemap.source a.state.place a.state.mode c.requires.whole.mode) c.body_of.ensures c.turned-parts-in-Shut.result c.turned-parts-in-Shut.ensures.value
 
 pub returns-in-Shut-clause-gives : goal.returns-in-Shut-clause-gives
 returns-in-Shut-clause-gives c =

@@ -9,8 +9,8 @@ use Rattle.starlark_lexer.proofs.parts.leave.Goals as goal
 pub returns-clause-whole : goal.returns-clause-whole
 returns-clause-whole c =
     let a = c.args.parts.now in
-    let bounds = subst (Bounds (drop a.state.place a.text.now)) c.requires.is c.requires.comes.bounds in
-    leave_sound a.text.now a.state a.outer.items a.margin c.requires.whole c.args.len bounds c.turned-parts.result c.pop-below.new.outer.items c.pop-below.result c.pop-below.ensures.mode c.turned-parts.ensures.value c.pop-below.ensures.rest
+    let bounds = subst (Bounds (drop a.state.place a.codemap.source)) c.requires.is c.requires.comes.bounds in
+    leave_sound a.codemap.source a.state a.outer.items a.margin c.requires.whole c.args.len bounds c.turned-parts.result c.pop-below.new.outer.items c.pop-below.result c.pop-below.ensures.mode c.turned-parts.ensures.value c.pop-below.ensures.rest
 
 pub returns-clause-gives : goal.returns-clause-gives
 returns-clause-gives c =

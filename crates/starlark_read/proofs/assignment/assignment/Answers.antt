@@ -11,24 +11,24 @@ use Rattle.starlark_read.proofs.assignment.assignment.Goals as goal
 use Rattle.starlark_read.proofs.assignment.assignment.Goals.{then-stands-via-then-stands, then-stands-via-else-stands+then-stands-2}
 
 pub returns-in_err-first-clause-reads : goal.returns-in_err-first-clause-reads
-returns-in_err-first-clause-reads g c k = exits (search rules) begins (c.in_err-first.ensures.reads c.args.dialect.now (spot (first _ k)))
+returns-in_err-first-clause-reads g c k = exits (search rules) begins (c.in_err-first.ensures.reads c.args.dialect (spot (first _ k)))
 
 pub returns-then-stands-clause-reads : goal.returns-then-stands-clause-reads
 returns-then-stands-clause-reads g c k =
-    let one = (c.in_ok-first.ensures.reads c.args.dialect.now (spot (first c.begin-begin.result k))).comes _ refl in
+    let one = (c.in_ok-first.ensures.reads c.args.dialect (spot (first c.begin-begin.result k))).comes _ refl in
     let all = one >> statement_ends _ _ _ k _ (elim c.then-stands.branch [ then-stands-via-then-stands w ↦ inl w.if-stands.ensures | then-stands-via-else-stands+then-stands-2 w ↦ inr w.if-stands-2.ensures ]) in
     begins_at _ k _ c.begin-begin.ensures (gives (assigned_as _ all (c.expression_statement.ensures ∙ ap (tree.expression (g.B.Make.means c.in_ok-first.first)) c.since-span.ensures)))
 
 pub returns-in_err-left-clause-reads : goal.returns-in_err-left-clause-reads
 returns-in_err-left-clause-reads g c k =
-    let d = c.args.dialect.now in
+    let d = c.args.dialect in
     let p = c.begin-begin.result in
     let one = (c.in_ok-first.ensures.reads d (spot (first p k))).comes _ refl in
     begins_at p k _ c.begin-begin.ensures (exits (search rules) (one >> left_begins _ _ p k _ c.if-stands.ensures c.if-stands-2.ensures) (c.in_err-left.ensures.reads d (in_statement (left p k)) refl))
 
 pub returns-in_err-ty-clause-reads : goal.returns-in_err-ty-clause-reads
 returns-in_err-ty-clause-reads g c k =
-    let d = c.args.dialect.now in
+    let d = c.args.dialect in
     let p = c.begin-begin.result in
     let one = (c.in_ok-first.ensures.reads d (spot (first p k))).comes _ refl in
     let all = one >> left_begins _ _ p k _ c.if-stands.ensures c.if-stands-2.ensures >> (c.in_ok-left.ensures.reads d (in_statement (left p k)) refl).comes _ refl in
@@ -36,7 +36,7 @@ returns-in_err-ty-clause-reads g c k =
 
 pub returns-in_err-op-clause-reads : goal.returns-in_err-op-clause-reads
 returns-in_err-op-clause-reads g c k =
-    let d = c.args.dialect.now in
+    let d = c.args.dialect in
     let p = c.begin-begin.result in
     let l = g.B.Make.means c.in_ok-left.left in
     let one = (c.in_ok-first.ensures.reads d (spot (first p k))).comes _ refl in
@@ -45,7 +45,7 @@ returns-in_err-op-clause-reads g c k =
 
 pub returns-in_err-right-clause-reads : goal.returns-in_err-right-clause-reads
 returns-in_err-right-clause-reads g c k =
-    let d = c.args.dialect.now in
+    let d = c.args.dialect in
     let p = c.begin-begin.result in
     let l = g.B.Make.means c.in_ok-left.left in
     let t = annotation_of g.B.Make.type_means c.in_ok-ty.ty in
@@ -55,7 +55,7 @@ returns-in_err-right-clause-reads g c k =
 
 pub returns-in-Some-clause-reads : goal.returns-in-Some-clause-reads
 returns-in-Some-clause-reads g c k =
-    let d = c.args.dialect.now in
+    let d = c.args.dialect in
     let p = c.begin-begin.result in
     let l = g.B.Make.means c.in_ok-left.left in
     let t = annotation_of g.B.Make.type_means c.in_ok-ty.ty in
@@ -66,7 +66,7 @@ returns-in-Some-clause-reads g c k =
 
 pub returns-clause-reads : goal.returns-clause-reads
 returns-clause-reads g c k =
-    let d = c.args.dialect.now in
+    let d = c.args.dialect in
     let p = c.begin-begin.result in
     let l = g.B.Make.means c.in_ok-left.left in
     let t = annotation_of g.B.Make.type_means c.in_ok-ty.ty in

@@ -8,7 +8,7 @@ use Rattle.starlark_read.proofs.Returning.{break_begins, continue_begins, pass_b
 use Rattle.starlark_read.proofs.small.small.Goals as goal
 
 pub returns-then-branch-clause-reads : goal.returns-then-branch-clause-reads
-returns-then-branch-clause-reads g c k n = behind_it (return_begins _ k c.begin-begin.ensures (read_it _ _ keyword_return _ c.if-branch.true c.in_ok-accept.ensures)) (c.behind_return.ensures.reads c.args.dialect.now k)
+returns-then-branch-clause-reads g c k n = behind_it (return_begins _ k c.begin-begin.ensures (read_it _ _ keyword_return _ c.if-branch.true c.in_ok-accept.ensures)) (c.behind_return.ensures.reads c.args.dialect k)
 
 pub returns-then-branch-2-clause-reads : goal.returns-then-branch-2-clause-reads
 returns-then-branch-2-clause-reads g c k n =
@@ -38,7 +38,7 @@ returns-then-branch-5-clause-reads g c k n =
     let x = left_it _ _ keyword_continue _ c.if-branch-3.false c.in_ok-accept-3.ensures in
     let y = left_it _ _ keyword_pass _ c.if-branch-4.false c.in_ok-accept-4.ensures in
     let p = read_it _ _ keyword_load _ c.if-branch-5.true c.in_ok-accept-5.ensures in
-    behind_it (load_begins _ k c.begin-begin.ensures (passes_from _ (y.0 ∙ x.0 ∙ w.0 ∙ v.0) p)) (c.load.ensures.reads c.args.dialect.now k)
+    behind_it (load_begins _ k c.begin-begin.ensures (passes_from _ (y.0 ∙ x.0 ∙ w.0 ∙ v.0) p)) (c.load.ensures.reads c.args.dialect k)
 
 pub returns-clause-reads : goal.returns-clause-reads
 returns-clause-reads g c k n =
