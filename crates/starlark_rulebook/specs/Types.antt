@@ -100,7 +100,7 @@ comprehension_word m = codes "list comprehension"
 -- where an expression stands that should be a type
 pub data Role : Type 0 where
   alone : Role
-  -- in brackets behind a path, where a list may stand too
+  -- as one of two in brackets behind a path, or in a list there: a list may stand so, too
   argument : Role
 
 -- The parts of a type, or its first fault (docs/LANGUAGE.md, Rules).
