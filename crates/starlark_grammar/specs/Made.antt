@@ -1,5 +1,5 @@
 -- What is made of several parts: each is seen by what says which plain data it is.
-use Rattle.std.specs.Prelude.{List, fold, Option, Some, None}
+use Rattle.std.specs.Prelude.{Bool, true, false, List, fold, Option, Some, None}
 use Rattle.starlark_place.specs.Place.{Extent}
 use Rattle.starlark_ast.specs.Tree as tree
 use Rattle.starlark_ast.specs.View.{comma_at, ident_at, members, text_at}
@@ -42,6 +42,11 @@ module _ {P L I A D T : Type 0} where
   -- what a load binds, and the place of the comma behind it
   abbrev pub symbol_at : LoadArgP P L I A D T → tree.Symbol × Option Extent
   symbol_at x = (tree.symbol (ident_at x.local) (text_at x.their), comma_at x.comma)
+
+-- a clause with `for`
+abbrev pub goes_over : tree.Clause → Bool
+goes_over (tree.for_clause t q) = true
+goes_over (tree.if_clause q) = false
 
 abbrev pub sign_of : Sign → tree.Sign
 sign_of sign.Not = tree.Not

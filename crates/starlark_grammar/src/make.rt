@@ -1,14 +1,17 @@
-//! Makers of nodes, over any trees.
+//! Makers of expressions, over any trees.
 
-ghost use Rattle.std.specs.Prelude.{◌≡◌, IfOk, string_bytes};
+ghost use Rattle.std.specs.Prelude.{◌≡◌, IfOk, None, true, string_bytes};
 ghost use Rattle.starlark_lexer.specs.Items.{number_of};
 ghost use Rattle.starlark_ast.specs.Tree as tree;
 ghost use Rattle.starlark_ast.specs.View.{members};
-ghost use Rattle.starlark_grammar.specs.Made.{items_of, pairs_of, clauses_of, symbol_at, symbols_of, sequence_of, bound_of, annotation_of, maybe_of, sign_of};
+ghost use Rattle.starlark_grammar.specs.Made.{items_of, pairs_of, clauses_of, goes_over, bound_of, sign_of};
+ghost use Rattle.starlark_rulebook.specs.Targets as targets;
+ghost use Rattle.starlark_rulebook.specs.View.{maybe_finding};
 
-use starlark_ast::ast::{AstNoPayload, BinOp, LoadArgP};
+use starlark_ast::ast::BinOp;
 use starlark_lexer::token::TokenInt;
 use starlark_place::pos::{Span, Spanned};
+use starlark_rulebook::rule::Rule;
 use std::alloc::{AllocError, Global};
 
 /// What stands before its operand.
@@ -20,8 +23,8 @@ pub enum Sign {
     BitNot,
 }
 
-/// Makes nodes. `span` is where the node stands, as docs/LANGUAGE.md, Spans, says. `Err` comes only where memory lacks, and
-/// then all that was handed in is let go.
+/// Makes expressions and what stands in them, and finds the rules that targets break. `span` is where the node stands, as
+/// docs/LANGUAGE.md, Spans, says. `Err` comes only where memory lacks, and then all that was handed in by value is let go.
 pub trait Make {
     /// An expression.
     type Expr: Drop;
@@ -73,43 +76,51 @@ pub trait Make {
     fn dict(members: Vec<(Self::Expr, Self::Expr)>, span: Span) -> Self::Expr
         ensures { means result ≡ tree.dict (pairs_of means members.items) span };
 
-    /// What is assigned to.
-    type Target: Drop;
+    // ---- comprehensions
 
-    ghost target_means: { Self.Target → tree.Expr };
+    /// The first rule that an expression breaks as a target, at its place. It takes no memory.
+    fn target_fault(x: &Self::Expr) -> Option<Spanned<Rule>>
+        ensures { maybe_finding result ≡ targets.target_fault (means x.now) };
 
-    /// A clause behind the first.
+    /// A clause.
     type Clause: Drop;
 
     ghost clause_means: { Self.Clause → tree.Clause };
 
-    /// `for target in over`, a clause behind the first one.
-    fn next_for(target: Self::Target, over: Self::Expr) -> Self::Clause
-        ensures { clause_means result ≡ tree.for_clause (target_means target) (means over) };
+    /// `for target in over`, a clause. `target` breaks no rule as one, and lists in it become tuples.
+    fn for_clause(
+        alloc: Global,
+        target: Self::Expr,
+        over: Self::Expr,
+    ) -> Result<Self::Clause, AllocError>
+        requires { targets.target_fault (means target) ≡ None }
+        ensures { IfOk result (λ c. clause_means c ≡ tree.for_clause (targets.target_of (means target)) (means over)) };
 
-    /// `if condition`, a clause of a comprehension.
+    /// `if condition`, a clause.
     fn if_clause(condition: Self::Expr) -> Self::Clause
         ensures { clause_means result ≡ tree.if_clause (means condition) };
 
-    /// `[member first rest]`, from `[` to `]`. `first` is the target of the first clause and what it goes over.
+    /// `[member first rest]`, from `[` to `]`. `first` is a clause with `for`.
     fn list_comprehension(
         alloc: Global,
         member: Self::Expr,
-        first: (Self::Target, Self::Expr),
+        first: Self::Clause,
         rest: Vec<Self::Clause>,
         span: Span,
     ) -> Result<Self::Expr, AllocError>
-        ensures { IfOk result (λ x. means x ≡ tree.comprehension (tree.item (means member)) (clauses_of (tree.for_clause (target_means first.0) (means first.1)) clause_means rest.items) span) };
+        requires { goes_over (clause_means first) ≡ true }
+        ensures { IfOk result (λ x. means x ≡ tree.comprehension (tree.item (means member)) (clauses_of (clause_means first) clause_means rest.items) span) };
 
-    /// `{key: value first rest}`, from `{` to `}`. `member` is the key and the value, `first` as in a list.
+    /// `{key: value first rest}`, from `{` to `}`. `member` is the key and the value, `first` a clause with `for`.
     fn dict_comprehension(
         alloc: Global,
         member: (Self::Expr, Self::Expr),
-        first: (Self::Target, Self::Expr),
+        first: Self::Clause,
         rest: Vec<Self::Clause>,
         span: Span,
     ) -> Result<Self::Expr, AllocError>
-        ensures { IfOk result (λ x. means x ≡ tree.comprehension (tree.pair (means member.0) (means member.1)) (clauses_of (tree.for_clause (target_means first.0) (means first.1)) clause_means rest.items) span) };
+        requires { goes_over (clause_means first) ≡ true }
+        ensures { IfOk result (λ x. means x ≡ tree.comprehension (tree.pair (means member.0) (means member.1)) (clauses_of (clause_means first) clause_means rest.items) span) };
 
     // ---- suffixes
 
@@ -220,13 +231,6 @@ pub trait Make {
     fn f_string(format: String, fields: Vec<Self::Expr>, span: Span) -> Self::Expr
         ensures { means result ≡ tree.fstring (string_bytes format) span (items_of means fields.items) span span };
 
-    // ---- types
-
-    /// A type.
-    type Type: Drop;
-
-    ghost type_means: { Self.Type → tree.Annotation };
-
     // ---- parameters and lambdas
 
     /// A parameter, or a marker between parameters.
@@ -242,33 +246,22 @@ pub trait Make {
     fn no_args(span: Span) -> Self::Parameter
         ensures { parameter_means result ≡ tree.no_args span };
 
-    /// A parameter without a star: its name, with a type and a default where it has them.
+    /// A parameter without a star and without a type: its name, with a default where it has one.
     fn parameter(
         alloc: Global,
         name: Spanned<String>,
-        ty: Option<Self::Type>,
         default: Option<Self::Expr>,
         span: Span,
     ) -> Result<Self::Parameter, AllocError>
-        ensures { IfOk result (λ p. parameter_means p ≡ tree.parameter tree.plain (string_bytes name.node) name.span (annotation_of type_means ty) (bound_of means default) span) };
+        ensures { IfOk result (λ p. parameter_means p ≡ tree.parameter tree.plain (string_bytes name.node) name.span tree.untyped (bound_of means default) span) };
 
-    /// `*name`, a parameter, from its `*` on, with a type where it has one.
-    fn args_parameter(
-        alloc: Global,
-        name: Spanned<String>,
-        ty: Option<Self::Type>,
-        span: Span,
-    ) -> Result<Self::Parameter, AllocError>
-        ensures { IfOk result (λ p. parameter_means p ≡ tree.parameter tree.starred (string_bytes name.node) name.span (annotation_of type_means ty) tree.absent span) };
+    /// `*name`, a parameter without a type, from its `*` on.
+    fn args_parameter(name: Spanned<String>, span: Span) -> Self::Parameter
+        ensures { parameter_means result ≡ tree.parameter tree.starred (string_bytes name.node) name.span tree.untyped tree.absent span };
 
-    /// `**name`, a parameter, from its `**` on, with a type where it has one.
-    fn kwargs_parameter(
-        alloc: Global,
-        name: Spanned<String>,
-        ty: Option<Self::Type>,
-        span: Span,
-    ) -> Result<Self::Parameter, AllocError>
-        ensures { IfOk result (λ p. parameter_means p ≡ tree.parameter tree.double_starred (string_bytes name.node) name.span (annotation_of type_means ty) tree.absent span) };
+    /// `**name`, a parameter without a type, from its `**` on.
+    fn kwargs_parameter(name: Spanned<String>, span: Span) -> Self::Parameter
+        ensures { parameter_means result ≡ tree.parameter tree.double_starred (string_bytes name.node) name.span tree.untyped tree.absent span };
 
     /// `lambda parameters: body`, from its keyword on.
     fn lambda(
@@ -278,85 +271,4 @@ pub trait Make {
         span: Span,
     ) -> Result<Self::Expr, AllocError>
         ensures { IfOk result (λ x. means x ≡ tree.lambda (members parameter_means parameters.items) (means body) span) };
-
-    // ---- small statements
-
-    /// A statement.
-    type Stmt: Drop;
-
-    ghost says: { Self.Stmt → tree.Statement };
-
-    /// Where a statement stands.
-    fn statement_place(s: &Self::Stmt) -> Span
-        ensures { result ≡ tree.statement_place (says s.now) };
-
-    /// `break`
-    fn break_statement(span: Span) -> Self::Stmt
-        ensures { says result ≡ tree.break span };
-
-    /// `continue`
-    fn continue_statement(span: Span) -> Self::Stmt
-        ensures { says result ≡ tree.continue span };
-
-    /// `pass`
-    fn pass_statement(span: Span) -> Self::Stmt
-        ensures { says result ≡ tree.pass span };
-
-    /// `return`, with a value where it has one.
-    fn return_statement(value: Option<Self::Expr>, span: Span) -> Self::Stmt
-        ensures { says result ≡ tree.return (maybe_of means value) span };
-
-    /// An expression as a statement.
-    fn expression_statement(value: Self::Expr, span: Span) -> Self::Stmt
-        ensures { says result ≡ tree.expression (means value) span };
-
-    /// `load(source, symbols)`, from its keyword to the `)`. `source` is the string that names the other module.
-    fn load(source: Spanned<String>, symbols: Vec<LoadArgP<AstNoPayload>>, span: Span) -> Self::Stmt
-        ensures { says result ≡ tree.load (tree.name_at (string_bytes source.node) source.span) (symbols_of symbol_at symbols.items) span };
-
-    // ---- statements with suites
-
-    /// `if condition: suite`, from its `if` or `elif` to the end of the suite.
-    fn if_statement(
-        alloc: Global,
-        condition: Self::Expr,
-        suite: Self::Stmt,
-        span: Span,
-    ) -> Result<Self::Stmt, AllocError>
-        ensures { IfOk result (λ s. says s ≡ tree.when (means condition) (says suite) span) };
-
-    /// The same with `else: otherwise`, or with an `elif` as `otherwise`, to the end of that.
-    fn if_else_statement(
-        alloc: Global,
-        condition: Self::Expr,
-        suite: Self::Stmt,
-        otherwise: Self::Stmt,
-        span: Span,
-    ) -> Result<Self::Stmt, AllocError>
-        ensures { IfOk result (λ s. says s ≡ tree.either (means condition) (says suite) (says otherwise) span) };
-
-    /// `for target in over: suite`, to the end of the suite.
-    fn for_statement(
-        alloc: Global,
-        target: Self::Target,
-        over: Self::Expr,
-        suite: Self::Stmt,
-        span: Span,
-    ) -> Result<Self::Stmt, AllocError>
-        ensures { IfOk result (λ s. says s ≡ tree.repeat (target_means target) (means over) (says suite) span) };
-
-    /// `def name(parameters) -> ty: suite`, to the end of the suite.
-    fn def_statement(
-        alloc: Global,
-        name: Spanned<String>,
-        parameters: Vec<Self::Parameter>,
-        ty: Option<Self::Type>,
-        suite: Self::Stmt,
-        span: Span,
-    ) -> Result<Self::Stmt, AllocError>
-        ensures { IfOk result (λ s. says s ≡ tree.define (tree.name_at (string_bytes name.node) name.span) (members parameter_means parameters.items) (annotation_of type_means ty) (says suite) span) };
-
-    /// Statements in a row, in a list even where there is only one.
-    fn block(statements: Vec<Self::Stmt>, span: Span) -> Self::Stmt
-        ensures { says result ≡ tree.block (sequence_of says statements.items) span };
 }

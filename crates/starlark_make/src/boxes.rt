@@ -1,6 +1,6 @@
 //! Values in boxes. What is not used where memory runs out is dropped here, so that no function over trees has to.
 
-ghost use Rattle.std.specs.Prelude.{◌≡◌, IfOk};
+ghost use Rattle.std.specs.Prelude.{◌≡◌, IfOk, Ok};
 ghost use Rattle.starlark_ast.specs.Access.{unboxed};
 
 use std::alloc::{AllocError, Global};
@@ -78,4 +78,15 @@ pub(crate) fn boxed_with_three<T: Drop>(
     let b = maybe_boxed(alloc, b)?;
     let c = maybe_boxed(alloc, c)?;
     Ok((x, a, b, c))
+}
+
+/// What was made, with what waited for it.
+pub(crate) fn or_dropped<T: Drop, R: Drop>(
+    made: Result<T, AllocError>,
+    rest: R,
+) -> Result<(T, R), AllocError>
+    ensures { IfOk result (λ b. (made ≡ Ok b.0) × (b.1 ≡ rest)) }
+{
+    let made = made?;
+    Ok((made, rest))
 }

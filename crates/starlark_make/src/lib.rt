@@ -2,8 +2,8 @@
 #![tactic(auto)]
 
 mod boxes;
-mod broken;
 mod ends;
 pub mod parts;
 pub mod reading;
+mod statements;
 pub mod trees;

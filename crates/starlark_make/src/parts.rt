@@ -1,14 +1,15 @@
 //! Parts of trees.
 
-ghost use Rattle.std.specs.Prelude.{◌≡◌, IfOk};
+ghost use Rattle.std.specs.Prelude.{◌≡◌, IfOk, true};
 ghost use Rattle.starlark_ast.specs.Tree as tree;
-ghost use Rattle.starlark_ast.specs.View.{expr_at, stmt_at};
-ghost use Rattle.starlark_grammar.specs.Made.{sign_of};
+ghost use Rattle.starlark_ast.specs.View.{clause_view, expr_at, stmt_at, target_at};
+ghost use Rattle.starlark_grammar.specs.Made.{goes_over, sign_of};
 ghost use Rattle.starlark_make.specs.Kept.{boxed_type_at};
 
 use crate::boxes::boxed;
 use starlark_ast::ast::{
-    AssignIdentP, AstAssignIdent, AstExpr, AstStmt, AstTypeExpr, ExprP, TypeExprP,
+    AssignIdentP, AstAssignIdent, AstAssignTarget, AstExpr, AstStmt, AstTypeExpr, Clause, ClauseP,
+    ExprP, ForClause, ForClauseP, TypeExprP,
 };
 use starlark_grammar::make::Sign;
 use starlark_place::pos::{Span, Spanned};
@@ -64,4 +65,22 @@ pub(crate) fn assigned(name: Spanned<String>) -> AstAssignIdent
         payload: (),
     };
     Spanned { span, node }
+}
+
+/// A clause with `for`.
+pub(crate) fn for_clause(var: AstAssignTarget, over: AstExpr) -> Clause
+    ensures { clause_view result ≡ tree.for_clause (target_at var) (expr_at over) }
+{
+    ClauseP::For(ForClauseP { var, over })
+}
+
+/// What a clause with `for` holds.
+pub(crate) fn for_part(clause: Clause) -> ForClause
+    requires { goes_over (clause_view clause) ≡ true }
+    ensures { tree.for_clause (target_at result.var) (expr_at result.over) ≡ clause_view clause }
+{
+    match clause {
+        ClauseP::For(it) => it,
+        ClauseP::If(_) => unreachable!(),
+    }
 }

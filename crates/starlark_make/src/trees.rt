@@ -1,29 +1,30 @@
-//! Trees that are kept, without payload.
+//! Expressions that are kept, without payload.
 
-ghost use Rattle.std.specs.Prelude.{◌≡◌, IfOk, string_bytes};
+ghost use Rattle.std.specs.Prelude.{◌≡◌, IfOk, true, string_bytes};
 ghost use Rattle.starlark_ast.specs.Tree as tree;
-ghost use Rattle.starlark_ast.specs.View.{argument_at, clause_view, expr_at, members, parameter_at, stmt_at, target_at};
-ghost use Rattle.starlark_grammar.specs.Made.{annotation_of, bound_of, clauses_of, items_of, maybe_of, pairs_of, sequence_of, symbol_at, symbols_of};
-ghost use Rattle.starlark_make.specs.Kept.{boxed_type_at};
+ghost use Rattle.starlark_ast.specs.View.{argument_at, clause_view, expr_at, members, parameter_at};
+ghost use Rattle.starlark_grammar.specs.Made.{bound_of, clauses_of, goes_over, items_of, pairs_of};
 
-use crate::boxes::{boxed, boxed_both, boxed_first, boxed_with_three, maybe_boxed_first};
-use crate::parts::{assigned, place_of, signed, statement_place_of};
+use crate::boxes::{
+    boxed, boxed_both, boxed_first, boxed_with_three, maybe_boxed_first, or_dropped,
+};
+use crate::parts::{assigned, for_clause, for_part, place_of, signed};
 use starlark_ast::ast::{
-    ArgumentP, AstArgument, AstAssignTarget, AstExpr, AstLiteral, AstNoPayload, AstParameter,
-    AstStmt, AstTypeExpr, BinOp, CallArgsP, Clause, ClauseP, DefP, ExprP, FStringP, ForClauseP,
-    ForP, IdentP, LambdaP, LoadArgP, LoadP, ParameterP, StmtP,
+    ArgumentP, AstArgument, AstExpr, AstLiteral, AstParameter, BinOp, CallArgsP, Clause, ClauseP,
+    ExprP, FStringP, IdentP, LambdaP, ParameterP,
 };
 use starlark_grammar::make::{Make, Sign};
 use starlark_lexer::token::TokenInt;
 use starlark_place::pos::{Span, Spanned};
+use starlark_rulebook::rule::Rule;
+use starlark_rules::assign;
 use std::alloc::{AllocError, Global};
 
 /// Keeps trees.
 pub struct Trees;
 
 impl Make for Trees {
-    ghost use Rattle.starlark_ast.specs.View.{argument_at, clause_view, expr_at, parameter_at, stmt_at, target_at};
-    ghost use Rattle.starlark_make.specs.Kept.{boxed_type_at};
+    ghost use Rattle.starlark_ast.specs.View.{argument_at, clause_view, expr_at, parameter_at};
 
     type Expr = AstExpr;
 
@@ -92,16 +93,17 @@ impl Make for Trees {
         Spanned { span, node }
     }
 
-    type Target = AstAssignTarget;
-
-    ghost target_means = { target_at };
+    fn target_fault(x: &AstExpr) -> Option<Spanned<Rule>> {
+        assign::target_fault(x)
+    }
 
     type Clause = Clause;
 
     ghost clause_means = { clause_view };
 
-    fn next_for(target: AstAssignTarget, over: AstExpr) -> Clause {
-        ClauseP::For(ForClauseP { var: target, over })
+    fn for_clause(alloc: Global, target: AstExpr, over: AstExpr) -> Result<Clause, AllocError> {
+        let (var, over) = or_dropped(assign::target(alloc, target), over)?;
+        Ok(for_clause(var, over))
     }
 
     fn if_clause(condition: AstExpr) -> Clause {
@@ -111,15 +113,14 @@ impl Make for Trees {
     fn list_comprehension(
         alloc: Global,
         member: AstExpr,
-        first: (AstAssignTarget, AstExpr),
+        first: Clause,
         rest: Vec<Clause>,
         span: Span,
     ) -> Result<AstExpr, AllocError>
-        ensures { IfOk result (λ x. expr_at x ≡ tree.comprehension (tree.item (expr_at member)) (clauses_of (tree.for_clause (target_at first.0) (expr_at first.1)) clause_view rest.items) span) }
+        requires { goes_over (clause_view first) ≡ true }
+        ensures { IfOk result (λ x. expr_at x ≡ tree.comprehension (tree.item (expr_at member)) (clauses_of (clause_view first) clause_view rest.items) span) }
     {
-        let (var, over) = first;
-        let first = ForClauseP { var, over };
-        let (member, first, rest) = boxed_both(alloc, member, first, rest)?;
+        let (member, first, rest) = boxed_both(alloc, member, for_part(first), rest)?;
         let node = ExprP::ListComprehension(member, first, rest);
         Ok(Spanned { span, node })
     }
@@ -127,15 +128,14 @@ impl Make for Trees {
     fn dict_comprehension(
         alloc: Global,
         member: (AstExpr, AstExpr),
-        first: (AstAssignTarget, AstExpr),
+        first: Clause,
         rest: Vec<Clause>,
         span: Span,
     ) -> Result<AstExpr, AllocError>
-        ensures { IfOk result (λ x. expr_at x ≡ tree.comprehension (tree.pair (expr_at member.0) (expr_at member.1)) (clauses_of (tree.for_clause (target_at first.0) (expr_at first.1)) clause_view rest.items) span) }
+        requires { goes_over (clause_view first) ≡ true }
+        ensures { IfOk result (λ x. expr_at x ≡ tree.comprehension (tree.pair (expr_at member.0) (expr_at member.1)) (clauses_of (clause_view first) clause_view rest.items) span) }
     {
-        let (var, over) = first;
-        let first = ForClauseP { var, over };
-        let (member, first, rest) = boxed_both(alloc, member, first, rest)?;
+        let (member, first, rest) = boxed_both(alloc, member, for_part(first), rest)?;
         let node = ExprP::DictComprehension(member, first, rest);
         Ok(Spanned { span, node })
     }
@@ -268,10 +268,6 @@ impl Make for Trees {
         Spanned { span, node }
     }
 
-    type Type = Box<AstTypeExpr>;
-
-    ghost type_means = { boxed_type_at };
-
     type Parameter = AstParameter;
 
     ghost parameter_means = { parameter_at };
@@ -289,39 +285,24 @@ impl Make for Trees {
     fn parameter(
         alloc: Global,
         name: Spanned<String>,
-        ty: Option<Box<AstTypeExpr>>,
         default: Option<AstExpr>,
         span: Span,
     ) -> Result<AstParameter, AllocError>
-        ensures { IfOk result (λ p. parameter_at p ≡ tree.parameter tree.plain (string_bytes name.node) name.span (annotation_of boxed_type_at ty) (bound_of expr_at default) span) }
+        ensures { IfOk result (λ p. parameter_at p ≡ tree.parameter tree.plain (string_bytes name.node) name.span tree.untyped (bound_of expr_at default) span) }
     {
-        let (default, (name, ty)) = maybe_boxed_first(alloc, default, (name, ty))?;
-        let node = ParameterP::Normal(assigned(name), ty, default);
+        let (default, name) = maybe_boxed_first(alloc, default, name)?;
+        let node = ParameterP::Normal(assigned(name), None, default);
         Ok(Spanned { span, node })
     }
 
-    fn args_parameter(
-        _alloc: Global,
-        name: Spanned<String>,
-        ty: Option<Box<AstTypeExpr>>,
-        span: Span,
-    ) -> Result<AstParameter, AllocError>
-        ensures { IfOk result (λ p. parameter_at p ≡ tree.parameter tree.starred (string_bytes name.node) name.span (annotation_of boxed_type_at ty) tree.absent span) }
-    {
-        let node = ParameterP::Args(assigned(name), ty);
-        Ok(Spanned { span, node })
+    fn args_parameter(name: Spanned<String>, span: Span) -> AstParameter {
+        let node = ParameterP::Args(assigned(name), None);
+        Spanned { span, node }
     }
 
-    fn kwargs_parameter(
-        _alloc: Global,
-        name: Spanned<String>,
-        ty: Option<Box<AstTypeExpr>>,
-        span: Span,
-    ) -> Result<AstParameter, AllocError>
-        ensures { IfOk result (λ p. parameter_at p ≡ tree.parameter tree.double_starred (string_bytes name.node) name.span (annotation_of boxed_type_at ty) tree.absent span) }
-    {
-        let node = ParameterP::KwArgs(assigned(name), ty);
-        Ok(Spanned { span, node })
+    fn kwargs_parameter(name: Spanned<String>, span: Span) -> AstParameter {
+        let node = ParameterP::KwArgs(assigned(name), None);
+        Spanned { span, node }
     }
 
     fn lambda(
@@ -339,118 +320,5 @@ impl Make for Trees {
             payload: (),
         });
         Ok(Spanned { span, node })
-    }
-
-    type Stmt = AstStmt;
-
-    ghost says = { stmt_at };
-
-    fn statement_place(s: &AstStmt) -> Span {
-        statement_place_of(s)
-    }
-
-    fn break_statement(span: Span) -> AstStmt {
-        let node = StmtP::Break;
-        Spanned { span, node }
-    }
-
-    fn continue_statement(span: Span) -> AstStmt {
-        let node = StmtP::Continue;
-        Spanned { span, node }
-    }
-
-    fn pass_statement(span: Span) -> AstStmt {
-        let node = StmtP::Pass;
-        Spanned { span, node }
-    }
-
-    fn return_statement(value: Option<AstExpr>, span: Span) -> AstStmt
-        ensures { stmt_at result ≡ tree.return (maybe_of expr_at value) span }
-    {
-        let node = StmtP::Return(value);
-        Spanned { span, node }
-    }
-
-    fn expression_statement(value: AstExpr, span: Span) -> AstStmt {
-        let node = StmtP::Expression(value);
-        Spanned { span, node }
-    }
-
-    fn load(source: Spanned<String>, symbols: Vec<LoadArgP<AstNoPayload>>, span: Span) -> AstStmt
-        ensures { stmt_at result ≡ tree.load (tree.name_at (string_bytes source.node) source.span) (symbols_of symbol_at symbols.items) span }
-    {
-        let node = StmtP::Load(LoadP {
-            module: source,
-            args: symbols,
-            payload: (),
-        });
-        Spanned { span, node }
-    }
-
-    fn if_statement(
-        alloc: Global,
-        condition: AstExpr,
-        suite: AstStmt,
-        span: Span,
-    ) -> Result<AstStmt, AllocError> {
-        let (suite, condition) = boxed_first(alloc, suite, condition)?;
-        let node = StmtP::If(condition, suite);
-        Ok(Spanned { span, node })
-    }
-
-    fn if_else_statement(
-        alloc: Global,
-        condition: AstExpr,
-        suite: AstStmt,
-        otherwise: AstStmt,
-        span: Span,
-    ) -> Result<AstStmt, AllocError> {
-        let (suites, condition) = boxed_first(alloc, (suite, otherwise), condition)?;
-        let node = StmtP::IfElse(condition, suites);
-        Ok(Spanned { span, node })
-    }
-
-    fn for_statement(
-        alloc: Global,
-        target: AstAssignTarget,
-        over: AstExpr,
-        suite: AstStmt,
-        span: Span,
-    ) -> Result<AstStmt, AllocError> {
-        let (body, (var, over)) = boxed_first(alloc, suite, (target, over))?;
-        let node = StmtP::For(ForP { var, over, body });
-        Ok(Spanned { span, node })
-    }
-
-    fn def_statement(
-        alloc: Global,
-        name: Spanned<String>,
-        parameters: Vec<AstParameter>,
-        ty: Option<Box<AstTypeExpr>>,
-        suite: AstStmt,
-        span: Span,
-    ) -> Result<AstStmt, AllocError>
-        ensures { IfOk result (λ s. stmt_at s ≡ tree.define (tree.name_at (string_bytes name.node) name.span) (members parameter_at parameters.items) (annotation_of boxed_type_at ty) (stmt_at suite) span) }
-    {
-        let (body, (name, params, return_type)) = boxed_first(
-            alloc,
-            suite,
-            (name, parameters, ty),
-        )?;
-        let node = StmtP::Def(DefP {
-            name: assigned(name),
-            params,
-            return_type,
-            body,
-            payload: (),
-        });
-        Ok(Spanned { span, node })
-    }
-
-    fn block(statements: Vec<AstStmt>, span: Span) -> AstStmt
-        ensures { stmt_at result ≡ tree.block (sequence_of stmt_at statements.items) span }
-    {
-        let node = StmtP::Statements(statements);
-        Spanned { span, node }
     }
 }

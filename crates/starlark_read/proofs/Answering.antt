@@ -1,13 +1,14 @@
 -- What a whole text is told.
 use Rattle.std.proofs.Common.{◌≡◌, ◌≢◌, ◌≤◌, ℕ, ◌-◌, ◌++◌, drop, length, arith, true, false, List, [], ◌∷◌, Option, Some, None, Result, Ok, Err, IfOk, refl, ap, sym, subst, ◌∙◌}
 use Rattle.std.proofs.lemmas.List.{length-append}
+use Rattle.starlark_place.specs.Place.{Extent}
 use Rattle.starlark_place.specs.declared.pos.Spanned.{Spanned}
 use Rattle.starlark_lexer.specs.Items.{Item, Stop, Lexed}
 use Rattle.starlark_lexer.specs.Lex.{Lex, start}
 use Rattle.starlark_lexer.specs.declared.dialect.Dialect.{Dialect}
 use Rattle.starlark_ast.specs.Tree.{Statement, Sequence, no_statements}
-use Rattle.starlark_rulebook.specs.declared.rule.Rule.{Rule}
-use Rattle.starlark_rulebook.specs.Rules.{Finding}
+use Rattle.starlark_rulebook.specs.declared.rule.Rule.{Rule as CodeRule}
+use Rattle.starlark_rulebook.specs.Rules.{Rule, Finding, breaks}
 use Rattle.starlark_rulebook.specs.View.{finding_of, rule_view}
 use Rattle.starlark_grammar.specs.Events.{end_finding}
 use Rattle.starlark_grammar.specs.Nodes.{block_of}
@@ -16,7 +17,7 @@ use Rattle.starlark_grammar.specs.Runs.{initial, run}
 use Rattle.starlark_grammar.specs.Verdicts.{Fine, Unexpected, Broken, Spoilt, settle, judge}
 use Rattle.starlark_grammar.specs.Language.{Fault, IsProgram, IsRefusal, IsRefused, Language, by_rule, last_end, uncommented}
 use Rattle.starlark_read.specs.Asides.{Aside}
-use Rattle.starlark_read.specs.Reads.{Left, left_of, Answers, Goes, SameEnd, Sticks}
+use Rattle.starlark_read.specs.Reads.{Left, left_of, Answers, Breaks, Goes, SameEnd, Sticks}
 use Rattle.starlark_read.specs.declared.refused.Refused.{Refused}
 use Rattle.starlark_read.specs.Refused.{fault_ahead, fault_at, fault_of}
 use Rattle.starlark_read.specs.Stops.{answer_to, end_ahead, last_of, left_over, reached, reached_by}
@@ -50,8 +51,8 @@ pub stuck_is : {d : Dialect} {l : Lexed} {os : List Item} {a : Aside} (us : Left
 stuck_is {d} {l} us p = refusal_is d l (fault_ahead us) (ap (λ v. told v l.fault (last_end 0 l.items)) p.same ∙ ap (λ s. told (Unexpected us.items) s (last_end 0 l.items)) (sym p.behind.fault) ∙ ap (told (Unexpected us.items) us.fault) (sym p.behind.last) ∙ stuck_at us.items us.fault us.last)
 
 -- a rule is broken
-pub broken_is : {d : Dialect} {l : Lexed} {os : List Item} {a : Aside} {us : Left} {n : ℕ} (f : Spanned Rule) → Answers d initial (left_of 0 l os a) (Broken (finding_of f) n) us → IsRefusal d l (by_rule (rule_view f.node) f.span)
-broken_is {d} {l} f p = refusal_is d l _ (ap (λ v. told v l.fault (last_end 0 l.items)) p.same)
+broken_is : {d : Dialect} {l : Lexed} {os : List Item} {a : Aside} {us : Left} {n : ℕ} (r : Rule) (s : Extent) → Answers d initial (left_of 0 l os a) (Broken (breaks r s) n) us → IsRefusal d l (by_rule r s)
+broken_is {d} {l} r s p = refusal_is d l _ (ap (λ v. told v l.fault (last_end 0 l.items)) p.same)
 
 -- all tokens were read
 pub record Read (d : Dialect) (l : Lexed) (us : Left) (raw : Statement) : Type 0 where
@@ -79,7 +80,7 @@ pub fault_is : {d : Dialect} {l : Lexed} {us : Left} {raw : Statement} → Read 
 fault_is {d} {l} {us} {raw} r h = refusal_is d l (fault_ahead us) (ap (λ v. told v l.fault (last_end 0 l.items)) r.same ∙ ap (λ s. told (settle raw (end_finding d raw)) s (last_end 0 l.items)) (sym r.fault) ∙ fault_told raw (end_finding d raw) us.fault us.last (last_end 0 l.items) h ∙ ap (λ xs. Some (fault_at xs us.fault us.last)) (sym r.items))
 
 -- a rule that counts at the end
-pub spoilt_is : {d : Dialect} {l : Lexed} {us : Left} {raw : Statement} (f : Spanned Rule) → Read d l us raw → us.fault ≡ None → end_finding d raw ≡ Some (finding_of f) → IsRefusal d l (by_rule (rule_view f.node) f.span)
+pub spoilt_is : {d : Dialect} {l : Lexed} {us : Left} {raw : Statement} (f : Spanned CodeRule) → Read d l us raw → us.fault ≡ None → end_finding d raw ≡ Some (finding_of f) → IsRefusal d l (by_rule (rule_view f.node) f.span)
 spoilt_is {d} {l} {us} {raw} f r n h = refusal_is d l _ (ap (λ v. told v l.fault (last_end 0 l.items)) (r.same ∙ ap (settle raw) h) ∙ ap (λ s. told (Spoilt raw (finding_of f)) s (last_end 0 l.items)) (sym r.fault ∙ n))
 
 -- no rule
@@ -89,9 +90,6 @@ fine_is {d} {l} {us} {raw} r n h = let q = sym r.fault ∙ n in (q, program_is d
 -- the same by the code's names
 pub stuck_from : {d : Dialect} {l : Lexed} {os : List Item} {a : Aside} {ts : Left} (us : Left) → ts ≡ left_of 0 l os a → Sticks d (at_line (outer no_statements) ts.last) ts us → IsRefusal d l (fault_ahead us)
 stuck_from {d} us w p = stuck_is us (subst (λ z. Sticks d (at_line (outer no_statements) z.last) z us) w p)
-
-pub broken_from : {d : Dialect} {l : Lexed} {os : List Item} {a : Aside} {n : ℕ} {ts us : Left} (f : Spanned Rule) → ts ≡ left_of 0 l os a → Answers d (at_line (outer no_statements) ts.last) ts (Broken (finding_of f) n) us → IsRefusal d l (by_rule (rule_view f.node) f.span)
-broken_from {d} {n = n} {us = us} f w p = broken_is f (subst (λ z. Answers d (at_line (outer no_statements) z.last) z (Broken (finding_of f) n) us) w p)
 
 pub read_from : {d : Dialect} {l : Lexed} {os : List Item} {a : Aside} {ts : Left} (us : Left) (ss : Sequence) → ts ≡ left_of 0 l os a → Goes d (at_line (outer no_statements) ts.last) ts (at_line (outer ss) us.last) us → us.items ≡ [] → Read d l us (block_of ss us.last)
 read_from {d} us ss w g e = all_read us ss (subst (λ z. Goes d (at_line (outer no_statements) z.last) z (at_line (outer ss) us.last) us) w g) e
@@ -155,6 +153,13 @@ given {A} {d} {l} {r} {g} q p e f h w = let z : r ≡ e = same_error h in let v 
   where
     same_error : ◌≡◌ {A = Result A Refused} (Err r) (Err e) → r ≡ e
     same_error h = cc
+
+-- the rule that the tokens keep
+pub broken_from : {A : Type 0} {d : Dialect} {l : Lexed} {os : List Item} {a : Aside} {ts us : Left} {r : Refused} → ts ≡ left_of 0 l os a → Breaks d (at_line (outer no_statements) ts.last) ts us → ((y : Rule) (s : Extent) → us.broken ≡ Some (breaks y s) → fault_of r ≡ Some (by_rule y s)) → (e : Refused) (f : Fault) → ◌≡◌ {A = Result A Refused} (Err r) (Err e) → fault_of e ≡ Some f → IsRefusal d l f
+broken_from {A} {d} {l} {ts = ts} {us = us} {r = r} w p says = go p.finding p.kept p.answers
+  where
+    go : (g : Finding) → us.broken ≡ Some g → Answers d (at_line (outer no_statements) ts.last) ts (Broken g (length us.items)) us → (e : Refused) (f : Fault) → ◌≡◌ {A = Result A Refused} (Err r) (Err e) → fault_of e ≡ Some f → IsRefusal d l f
+    go (breaks y s) k q = given (says y s k) (broken_is y s (subst (λ z. Answers d (at_line (outer no_statements) z.last) z (Broken (breaks y s) (length us.items)) us) w q))
 
 -- of a text
 pub refused_text : {d : Dialect} {text : List ℕ} {l : Lexed} {f : Fault} → Lex start text l → IsRefusal d (uncommented l) f → IsRefused d text f

@@ -2,13 +2,10 @@
 use Rattle.std.proofs.Common.{◌≡◌, ◌≢◌, ℕ, List, [], ◌∷◌, ◌++◌, Option, Some, None, Bool, true, false, Result, Ok, Err, refl, ap, sym, subst, ◌∙◌, length}
 use Rattle.std.proofs.lemmas.List.{append_assoc}
 use Rattle.std.specs.Bool.{MatchBool}
-use Rattle.starlark_place.specs.declared.pos.Spanned.{Spanned}
 use Rattle.starlark_lexer.specs.Items.{Lexeme, Item, item}
 use Rattle.starlark_lexer.specs.declared.dialect.Dialect.{Dialect}
 use Rattle.starlark_ast.specs.Tree.{Expr}
-use Rattle.starlark_rulebook.specs.declared.rule.Rule.{Rule}
 use Rattle.starlark_rulebook.specs.Rules.{Finding}
-use Rattle.starlark_rulebook.specs.View.{finding_of}
 use Rattle.starlark_read.specs.declared.error.Error.{Error}
 use Rattle.starlark_read.specs.declared.error.Error.TheVariants as e
 use Rattle.starlark_grammar.specs.Events.{Event}
@@ -18,7 +15,7 @@ use Rattle.starlark_grammar.specs.Frames.{Frames, State, has}
 use Rattle.starlark_grammar.specs.Machine.{step}
 use Rattle.starlark_grammar.specs.Runs.{Stuck, finish, met, note, run}
 use Rattle.starlark_grammar.specs.Verdicts.{Verdict, Unexpected, Broken, answer, broken_at, judge}
-use Rattle.starlark_read.specs.Reads.{Left, behind_token, behind_tokens, first_lexeme, Passes, SameEnd, Goes, Sticks, Answers, Comes, name_ahead}
+use Rattle.starlark_read.specs.Reads.{Left, behind_token, behind_tokens, first_lexeme, stopped, Passes, SameEnd, Goes, Sticks, Answers, Breaks, Comes, name_ahead}
 use Rattle.starlark_grammar.proofs.Steps.{arrive, runs, runs_end, passes_on, stays_at}
 use Rattle.starlark_grammar.specs.Sorts.{name_of}
 
@@ -46,6 +43,9 @@ sticks p q = record { same = p.same ∙ q.same; behind = then_end p.behind q.beh
 
 pub answers : {d : Dialect} {s t : State} {a b c : Left} {v : Verdict} → Goes d s a t b → Answers d t b v c → Answers d s a v c
 answers p q = record { same = p.same ∙ q.same; behind = then_end p.behind q.behind }
+
+pub breaks_behind : {d : Dialect} {s t : State} {a b c : Left} → Goes d s a t b → Breaks d t b c → Breaks d s a c
+breaks_behind p q = record { finding = q.finding; kept = q.kept; answers = answers p q.answers }
 
 pub begins : {d : Dialect} {s : State} {ts : Left} → Goes d s ts s ts
 begins = record { same = refl; behind = same_end }
@@ -86,7 +86,7 @@ pub gives : {d : Dialect} {A : Type 0} {s : State} {t : A → State} {before aft
 gives {d} {A} {s} {t} {before} {after} {x} p = record {
   comes = λ y q. subst (λ z. Goes d s before (t z) after) (same_ok x y q) p;
   stuck = λ q. absurd (let n : ◌≡◌ {A = Result A Error} (Ok x) (Err e.Unexpected) = q in (cc));
-  breaks = λ f q. absurd (let n : ◌≡◌ {A = Result A Error} (Ok x) (Err (e.Broken f)) = q in (cc));
+  breaks = λ q. absurd (let n : ◌≡◌ {A = Result A Error} (Ok x) (Err e.Broken) = q in (cc));
 }
   where
     same_ok : (x y : A) → ◌≡◌ {A = Result A Error} (Ok x) (Ok y) → x ≡ y
@@ -100,7 +100,7 @@ pub exits : {d : Dialect} {A B : Type 0} {s s' : State} {t : A → State} {u : B
 exits {d} {A} {B} {r = r} {m = m} q p h = record {
   comes = λ x w. absurd (let n : ◌≡◌ {A = Result A Error} (Err m) (Ok x) = sym q ∙ w in (cc));
   stuck = λ w. sticks p (h.stuck (err_same r m e.Unexpected q w));
-  breaks = λ f w. answers p (h.breaks f (err_same r m (e.Broken f) q w));
+  breaks = λ w. breaks_behind p (h.breaks (err_same r m e.Broken q w));
 }
 
 -- nothing can be read there
@@ -108,15 +108,23 @@ pub refuses : {d : Dialect} {A : Type 0} {s : State} {t : A → State} {before a
 refuses {d} {A} p = record {
   comes = λ x v. absurd (let n : ◌≡◌ {A = Result A Error} (Err e.Unexpected) (Ok x) = v in (cc));
   stuck = λ v. p;
-  breaks = λ f v. absurd (let n : ◌≡◌ {A = Result A Error} (Err e.Unexpected) (Err (e.Broken f)) = v in (cc));
+  breaks = λ v. absurd (let n : ◌≡◌ {A = Result A Error} (Err e.Unexpected) (Err e.Broken) = v in (cc));
 }
 
+-- the tokens that are there, whatever rule is kept
+pub still_there : {ts us vs : Left} {o : Option Finding} → SameEnd ts us → vs ≡ stopped us o → SameEnd ts vs
+still_there {ts} q w = subst (SameEnd ts) (sym w) (record { passed = q.passed; items = q.items; fault = q.fault; last = q.last; unasked = q.unasked; aside = q.aside })
+
+-- a rule is kept
+pub some_kept : {o : Option Finding} {f : Finding} → o ≡ Some f → o ≢ None
+some_kept {o} {f} h n = let w : Some f ≡ None = sym h ∙ n in (cc)
+
 -- a rule is broken
-pub halts : {d : Dialect} {A : Type 0} {s : State} {t : A → State} {before after : Left} {f : Spanned Rule} → Answers d s before (Broken (finding_of f) (length after.items)) after → Comes d s t before (Err (e.Broken f)) after
-halts {d} {A} {s} {t} {before} {after} {f} p = record {
-  comes = λ x v. absurd (let n : ◌≡◌ {A = Result A Error} (Err (e.Broken f)) (Ok x) = v in (cc));
-  stuck = λ v. absurd (let n : ◌≡◌ {A = Result A Error} (Err (e.Broken f)) (Err e.Unexpected) = v in (cc));
-  breaks = λ g v. let n : ◌≡◌ {A = Result A Error} (Err (e.Broken f)) (Err (e.Broken g)) = v in let z : f ≡ g = cc in subst (λ y. Answers d s before (Broken (finding_of y) (length after.items)) after) z p;
+pub halts : {d : Dialect} {A : Type 0} {s : State} {t : A → State} {before mid after : Left} {m : Error} {f : Finding} → m ≡ e.Broken → after ≡ stopped mid (Some f) → Answers d s before (Broken f (length mid.items)) mid → Comes d s t before (Err m) after
+halts {d} {A} {s} {t} {before} {mid} {after} {m} {f} b k p = record {
+  comes = λ x v. absurd (let n : ◌≡◌ {A = Result A Error} (Err m) (Ok x) = v in (cc));
+  stuck = λ v. absurd (let n : ◌≡◌ {A = Result A Error} (Err m) (Err e.Unexpected) = v in let u : m ≡ e.Broken = b in (cc));
+  breaks = λ v. subst (λ us. Breaks d s before us) (sym k) (record { finding = f; kept = refl; answers = record { same = p.same; behind = still_there p.behind refl } });
 }
 
 -- a construct is met there that breaks a rule
@@ -129,7 +137,7 @@ broken {d} {s} ts v f m b = record { same = go ts.items m b; behind = same_end }
 
 -- what was read before, and what a call reads
 pub behind_it : {d : Dialect} {A : Type 0} {s s' : State} {t : A → State} {before mid rest : Left} {r : Result A Error} → Goes d s before s' mid → Comes d s' t mid r rest → Comes d s t before r rest
-behind_it p h = record { comes = λ x w. p >> h.comes x w; stuck = λ w. sticks p (h.stuck w); breaks = λ f w. answers p (h.breaks f w) }
+behind_it p h = record { comes = λ x w. p >> h.comes x w; stuck = λ w. sticks p (h.stuck w); breaks = λ w. breaks_behind p (h.breaks w) }
 
 -- a state that stops
 pub stops : {d : Dialect} (s : State) (ts : Left) → met s (first_lexeme ts.items) ≡ None → finish s ≡ Stuck [] → ((x : Item) (xs : List Item) → ts.items ≡ x ∷ xs → step s x ≡ None) → Sticks d s ts ts
@@ -159,9 +167,9 @@ left_it ts us w true q h = absurd (cc)
 left_it ts us w false q h = h
 
 -- the wanted token is not there
-pub missing : {d : Dialect} {A B : Type 0} {s : State} {t : A → State} {before mid after : Left} {w : Lexeme} {r : Result A Error} {m : Error} → r ≡ Err m → (◌≡◌ {A = Result B Error} (Err m) (Err e.Unexpected) → (after ≡ mid) × (first_lexeme mid.items ≢ Some w)) → ((f : Spanned Rule) → ◌≡◌ {A = Result B Error} (Err m) (Err (e.Broken f)) → ⊥) → ((after ≡ mid) × (first_lexeme mid.items ≢ Some w) → Sticks d s before after) → Comes d s t before r after
+pub missing : {d : Dialect} {A B : Type 0} {s : State} {t : A → State} {before mid after : Left} {w : Lexeme} {r : Result A Error} {m : Error} → r ≡ Err m → (◌≡◌ {A = Result B Error} (Err m) (Err e.Unexpected) → (after ≡ mid) × (first_lexeme mid.items ≢ Some w)) → (◌≡◌ {A = Result B Error} (Err m) (Err e.Broken) → ⊥) → ((after ≡ mid) × (first_lexeme mid.items ≢ Some w) → Sticks d s before after) → Comes d s t before r after
 missing {d} {A} {r = r} {m = m} q f g h = record {
   comes = λ x v. absurd (let n : ◌≡◌ {A = Result A Error} (Err m) (Ok x) = sym q ∙ v in (cc));
   stuck = λ v. h (f (err_same r m e.Unexpected q v));
-  breaks = λ u v. absurd (g u (err_same r m (e.Broken u) q v));
+  breaks = λ v. absurd (g (err_same r m e.Broken q v));
 }

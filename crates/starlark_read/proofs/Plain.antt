@@ -5,7 +5,9 @@ use Rattle.starlark_lexer.specs.Items.{Lexeme, Item, comment, identifier, intege
 use Rattle.starlark_read.specs.declared.kind.Kind.{Kind}
 use Rattle.starlark_read.specs.declared.kind.Kind.TheVariants as kind
 use Rattle.starlark_read.specs.Kinds.{kind_of, kind_ahead, is_plain, token_of}
-use Rattle.starlark_read.specs.Reads.{first_lexeme}
+use Rattle.starlark_grammar.specs.Tables.{assigner, beginning, grade_of, suffix}
+use Rattle.starlark_read.specs.Assigning.{assign_op_ahead, operation_of}
+use Rattle.starlark_read.specs.Reads.{begins_ahead, begins_by, first_lexeme, grade_ahead, operator_ahead, operator_of, sign_ahead, sign_in}
 
 -- a token of such a kind is the one of the kind
 token_is : (x : Lexeme) → is_plain (kind_of x) ≡ true → x ≡ token_of (kind_of x)
@@ -42,3 +44,44 @@ stands_not (x ∷ xs) k h n e = n (let w : x.lexeme ≡ token_of k = cc in ap ki
 pub by_same : (xs : List Item) (k w : Kind) → is_plain w ≡ true → k ≡ kind_ahead xs → (b : Bool) → (b ≡ true → k ≡ w) → (b ≡ false → k ≢ w) → MatchBool b (first_lexeme xs ≡ Some (token_of w)) (first_lexeme xs ≢ Some (token_of w))
 by_same xs k w h e true f g = stands xs w h (sym e ∙ f refl)
 by_same xs k w h e false f g = stands_not xs w h (λ q. g refl (e ∙ q))
+
+-- the tables of tokens without payload, by their kinds
+pub assigns_alike : (xs : List Item) → operation_of (assigner (token_of (kind_ahead xs))) ≡ assign_op_ahead xs
+assigns_alike [] = refl
+assigns_alike (x ∷ xs) = alike x.lexeme
+  where
+    alike : (l : Lexeme) → operation_of (assigner (token_of (kind_of l))) ≡ operation_of (assigner l)
+    alike (comment t) = refl
+    alike _ = refl
+
+pub grades_alike : (xs : List Item) → grade_of (suffix (token_of (kind_ahead xs))) ≡ grade_ahead xs
+grades_alike [] = refl
+grades_alike (x ∷ xs) = alike x.lexeme
+  where
+    alike : (l : Lexeme) → grade_of (suffix (token_of (kind_of l))) ≡ grade_of (suffix l)
+    alike (comment t) = refl
+    alike _ = refl
+
+pub operators_alike : (xs : List Item) → operator_of (suffix (token_of (kind_ahead xs))) ≡ operator_ahead xs
+operators_alike [] = refl
+operators_alike (x ∷ xs) = alike x.lexeme
+  where
+    alike : (l : Lexeme) → operator_of (suffix (token_of (kind_of l))) ≡ operator_of (suffix l)
+    alike (comment t) = refl
+    alike _ = refl
+
+pub signs_alike : (xs : List Item) → sign_in (beginning (token_of (kind_ahead xs))) ≡ sign_ahead xs
+signs_alike [] = refl
+signs_alike (x ∷ xs) = alike x.lexeme
+  where
+    alike : (l : Lexeme) → sign_in (beginning (token_of (kind_of l))) ≡ sign_in (beginning l)
+    alike (comment t) = refl
+    alike _ = refl
+
+pub levels_alike : (xs : List Item) → begins_by (beginning (token_of (kind_ahead xs))) ≡ begins_ahead xs
+levels_alike [] = refl
+levels_alike (x ∷ xs) = alike x.lexeme
+  where
+    alike : (l : Lexeme) → begins_by (beginning (token_of (kind_of l))) ≡ begins_by (beginning l)
+    alike (comment t) = refl
+    alike _ = refl

@@ -1,14 +1,12 @@
 -- What a function of the parser says.
 use Rattle.std.specs.Prelude.{◌≡◌, ℕ, zero, suc, if◌then◌else◌, List, [], ◌∷◌, ◌++◌, length, Option, Some, None, Result, Ok, Err, false}
 use Rattle.starlark_place.specs.Place.{extent}
-use Rattle.starlark_place.specs.declared.pos.Spanned.{Spanned}
 use Rattle.starlark_lexer.specs.Items.{Lexeme, string, Item, Stop, Lexed, nothing, with_item, with_fault, lexeme_of}
 use Rattle.starlark_lexer.specs.declared.dialect.Dialect.{Dialect}
 use Rattle.starlark_ast.specs.declared.ast.BinOp.{BinOp}
 use Rattle.starlark_ast.specs.Tree as tree
-use Rattle.starlark_rulebook.specs.declared.rule.Rule.{Rule}
+use Rattle.starlark_rulebook.specs.Rules.{Finding}
 use Rattle.starlark_rulebook.specs.Types.{type_fault}
-use Rattle.starlark_rulebook.specs.View.{finding_of}
 use Rattle.starlark_read.specs.declared.error.Error.{Error}
 use Rattle.starlark_read.specs.declared.error.Error.TheVariants as error
 use Rattle.starlark_read.specs.declared.feed.Lookahead.{Lookahead}
@@ -25,14 +23,15 @@ use Rattle.starlark_grammar.specs.Verdicts as verdict
 use Rattle.starlark_grammar.specs.Language.{is_comment, last_end}
 
 -- what is left to read: the tokens and the fault behind them, the lexemes, comments among them, that the lexer has still to
--- be asked for, where the last token ends that was read, and what is told of the whole text beside its tokens, which no
--- reading changes
+-- be asked for, where the last token ends that was read, what is told of the whole text beside its tokens, which no reading
+-- changes, and the broken rule at which reading stopped, if it stopped at one
 pub record Left : Type 0 where
   pub last : ℕ
   pub items : List Item
   pub fault : Option Stop
   pub unasked : List Item
   pub aside : Aside
+  pub broken : Option Finding
 
 -- what the lexer has left, with the one token that was asked for ahead
 abbrev pub with_ahead : Lookahead → Lexed → Lexed
@@ -41,7 +40,11 @@ with_ahead ahead.End l = nothing
 with_ahead (ahead.Fault e s) l = with_fault s.begin e s.end
 
 abbrev pub left_of : ℕ → Lexed → List Item → Aside → Left
-left_of n l us a = record { last = n; items = l.items; fault = l.fault; unasked = us; aside = a }
+left_of n l us a = record { last = n; items = l.items; fault = l.fault; unasked = us; aside = a; broken = None }
+
+-- the same, with the rule at which reading stops
+abbrev pub stopped : Left → Option Finding → Left
+stopped ts o = record { last = ts.last; items = ts.items; fault = ts.fault; unasked = ts.unasked; aside = ts.aside; broken = o }
 
 -- the lexemes behind the first one that is no comment
 abbrev pub behind_token : List Item → List Item
@@ -141,12 +144,18 @@ pub record Answers (d : Dialect) (s : State) (ts : Left) (v : Verdict) (us : Lef
   pub same : judge d (run s ts.items) ≡ v
   pub behind : SameEnd ts us
 
+-- from s at the tokens ts a rule is broken at the tokens us, which keep it
+pub record Breaks (d : Dialect) (s : State) (ts us : Left) : Type 0 where
+  pub finding : Finding
+  pub kept : us.broken ≡ Some finding
+  pub answers : Answers d s ts (verdict.Broken finding (length us.items)) us
+
 -- The machine comes from s at the tokens before to the state of the result at the tokens after, or it
 -- is stuck at the tokens after, or a rule is broken there.
 pub record Comes {A : Type 0} (d : Dialect) (s : State) (t : A → State) (before : Left) (r : Result A Error) (after : Left) : Type 0 where
   pub comes : (x : A) → r ≡ Ok x → Goes d s before (t x) after
   pub stuck : r ≡ Err error.Unexpected → Sticks d s before after
-  pub breaks : (f : Spanned Rule) → r ≡ Err (error.Broken f) → Answers d s before (verdict.Broken (finding_of f) (length after.items)) after
+  pub breaks : r ≡ Err error.Broken → Breaks d s before after
 
 -- What waits for a list without brackets: something in a statement, or a clause of a comprehension.
 pub data Unbracketed : Type 0 where

@@ -17,12 +17,12 @@ use crate::level::{TEST, UNARY};
 use crate::operators::operators;
 use crate::suffixes::suffixes;
 use crate::tokens::Tokens;
-use starlark_grammar::build::Build;
+use starlark_grammar::make::Make;
 use starlark_place::pos::Spanned;
 
 /// A call, behind its opening parenthesis.
 #[cycle(expression)]
-pub(crate) fn call<B: Build>(tokens: &mut Tokens, callee: B::Expr) -> Result<B::Expr, Error>
+pub(crate) fn call<B: Make>(tokens: &mut Tokens, callee: B::Expr) -> Result<B::Expr, Error>
     ensures reads { (d : Dialect) (k : Frames) → Comes d (stands (member_wanted (behind (B.means callee)) tree.none false 0 0) k) (λ x. has (B.means x) tokens.new.last k) tokens.old result tokens.new }
     ensures shorter { OnOk result (length tokens.new.items < length tokens.old.items) }
 {
@@ -33,7 +33,7 @@ pub(crate) fn call<B: Build>(tokens: &mut Tokens, callee: B::Expr) -> Result<B::
 
 // the arguments of a call, with its closing parenthesis
 #[cycle(expression)]
-fn arguments<B: Build>(tokens: &mut Tokens) -> Result<Vec<B::Argument>, Error>
+fn arguments<B: Make>(tokens: &mut Tokens) -> Result<Vec<B::Argument>, Error>
     ensures reads { (d : Dialect) (q : tree.Expr) (k : Frames) → Comes d (stands (member_wanted (behind q) tree.none false 0 0) k) (λ xs. has (tree.call q (members B.argument_means xs.items) (from q tokens.new.last)) tokens.new.last k) tokens.old result tokens.new }
     ensures shorter { OnOk result (length tokens.new.items < length tokens.old.items) }
 {
@@ -53,7 +53,7 @@ fn arguments<B: Build>(tokens: &mut Tokens) -> Result<Vec<B::Argument>, Error>
 
 // an argument
 #[cycle(expression)]
-fn argument<B: Build>(tokens: &mut Tokens) -> Result<B::Argument, Error>
+fn argument<B: Make>(tokens: &mut Tokens) -> Result<B::Argument, Error>
     requires { first_lexeme tokens.old.items ≢ Some closing_round }
     ensures reads { (d : Dialect) (q : tree.Expr) (ms : tree.Members) (t : Bool) (e f : ℕ) (k : Frames) → Comes d (stands (member_wanted (behind q) ms t e f) k) (λ x. stands (member_read (behind q) (tree.more ms (B.argument_means x)) tokens.new.last (first_at ms f (start tokens.old.items))) k) tokens.old result tokens.new }
     ensures shorter { OnOk result (length tokens.new.items < length tokens.old.items) }
@@ -79,7 +79,7 @@ fn argument<B: Build>(tokens: &mut Tokens) -> Result<B::Argument, Error>
 
 // an argument behind the identifier that it begins with
 #[cycle(expression)]
-fn behind_name<B: Build>(tokens: &mut Tokens, name: Spanned<String>) -> Result<B::Argument, Error>
+fn behind_name<B: Make>(tokens: &mut Tokens, name: Spanned<String>) -> Result<B::Argument, Error>
     requires { tokens.old.last ≡ name.span.end }
     ensures reads { (d : Dialect) (q : tree.Expr) (ms : tree.Members) (f : ℕ) (k : Frames) → Comes d (perhaps_named q ms f (string_bytes name.node) name.span.begin name.span.end k) (λ x. stands (member_read (behind q) (tree.more ms (B.argument_means x)) tokens.new.last f) k) tokens.old result tokens.new }
     ensures shorter { OnOk result (length tokens.new.items ≤ length tokens.old.items) }

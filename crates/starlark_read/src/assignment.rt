@@ -5,7 +5,9 @@ ghost use Rattle.starlark_lexer.specs.Items.{comma};
 ghost use Rattle.starlark_lexer.specs.declared.dialect.Dialect.{Dialect};
 ghost use Rattle.starlark_ast.specs.Tree as tree;
 ghost use Rattle.starlark_ast.specs.Tree.{Annotation, Expr};
-ghost use Rattle.starlark_read.specs.Assigning.{IsWhole, assign_op_ahead, behind_left};
+ghost use Rattle.starlark_read.specs.Assigning.{IsWhole, assign_op_ahead, behind_left, operation_of};
+ghost use Rattle.starlark_read.specs.Kinds.{token_of};
+ghost use Rattle.starlark_grammar.specs.Tables.{assigner};
 ghost use Rattle.starlark_grammar.specs.Made.{annotation_of};
 ghost use Rattle.starlark_grammar.specs.Nodes.{start};
 ghost use Rattle.starlark_grammar.specs.Frames.{Line, behind_small, first, has, left, listed, right, spot, wants, wants_list};
@@ -38,7 +40,7 @@ pub(crate) fn assignment<B: Build>(tokens: &mut Tokens, dialect: Dialect) -> Res
     let op = operator(tokens)?;
     let right = listed::<B>(tokens, TEST)?;
     if let Some(fault) = B::assignment_fault(&left, &ty, op) {
-        return Err(Error::Broken(fault));
+        return Err(tokens.stop(fault));
     }
     let span = tokens.since(begin);
     Ok(B::assign(tokens.alloc(), left, ty, op, right, span)?)
@@ -75,7 +77,14 @@ fn operator(tokens: &mut Tokens) -> Result<Option<AssignOp>, Error>
 fn assign_op_ahead(tokens: &Tokens) -> Option<AssignOp>
     ensures { result ≡ assign_op_ahead tokens.now.items }
 {
-    match tokens.kind() {
+    assign_op(tokens.kind())
+}
+
+// the operation of an operator that assigns and is not `=`
+fn assign_op(kind: Kind) -> Option<AssignOp>
+    ensures { result ≡ operation_of (assigner (token_of kind)) }
+{
+    match kind {
         Kind::PlusEqual => Some(AssignOp::Add),
         Kind::MinusEqual => Some(AssignOp::Subtract),
         Kind::StarEqual => Some(AssignOp::Multiply),

@@ -17,13 +17,13 @@ use crate::f_string::{f_string, opens_f_string};
 use crate::kind::Kind;
 use crate::level::TEST;
 use crate::tokens::Tokens;
-use starlark_grammar::build::Build;
+use starlark_grammar::make::Make;
 use starlark_lexer::token::Token;
 use starlark_place::pos::Pos;
 
 /// An expression without operators and suffixes.
 #[cycle(expression)]
-pub(crate) fn atom<B: Build>(tokens: &mut Tokens) -> Result<B::Expr, Error>
+pub(crate) fn atom<B: Make>(tokens: &mut Tokens) -> Result<B::Expr, Error>
     ensures reads { (d : Dialect) (k : Frames) → Comes d (wants 0 k) (λ x. has (B.means x) tokens.new.last (tail 0 k)) tokens.old result tokens.new }
     ensures shorter { OnOk result (length tokens.new.items < length tokens.old.items) }
 {
@@ -55,7 +55,7 @@ fn begins_leaf(tokens: &Tokens) -> bool
 }
 
 /// An expression of one token, where no bracket and no f-string begins.
-fn leaf<B: Build>(tokens: &mut Tokens) -> Result<B::Expr, Error>
+fn leaf<B: Make>(tokens: &mut Tokens) -> Result<B::Expr, Error>
     ensures reads { (d : Dialect) (k : Frames) → opening_ahead tokens.old.items ≡ false → Comes d (wants 0 k) (λ x. has (B.means x) tokens.new.last (tail 0 k)) tokens.old result tokens.new }
     ensures shorter { OnOk result (length tokens.new.items < length tokens.old.items) }
 {
@@ -80,7 +80,7 @@ fn leaf<B: Build>(tokens: &mut Tokens) -> Result<B::Expr, Error>
 
 /// An expression in parentheses, or a tuple, behind `(`.
 #[cycle(expression)]
-fn parenthesized<B: Build>(tokens: &mut Tokens, opening: Pos) -> Result<B::Expr, Error>
+fn parenthesized<B: Make>(tokens: &mut Tokens, opening: Pos) -> Result<B::Expr, Error>
     ensures reads { (d : Dialect) (k : Frames) → Comes d (stands (member_wanted (brackets round opening) tree.none false 0 0) k) (λ x. has (B.means x) tokens.new.last k) tokens.old result tokens.new }
     ensures shorter { OnOk result (length tokens.new.items < length tokens.old.items) }
 {
@@ -100,7 +100,7 @@ fn parenthesized<B: Build>(tokens: &mut Tokens, opening: Pos) -> Result<B::Expr,
 
 /// A list or a comprehension of one, behind `[`.
 #[cycle(expression)]
-fn list<B: Build>(tokens: &mut Tokens, opening: Pos) -> Result<B::Expr, Error>
+fn list<B: Make>(tokens: &mut Tokens, opening: Pos) -> Result<B::Expr, Error>
     ensures reads { (d : Dialect) (k : Frames) → Comes d (stands (member_wanted (brackets square opening) tree.none false 0 0) k) (λ x. has (B.means x) tokens.new.last k) tokens.old result tokens.new }
     ensures shorter { OnOk result (length tokens.new.items < length tokens.old.items) }
 {
@@ -127,7 +127,7 @@ fn list<B: Build>(tokens: &mut Tokens, opening: Pos) -> Result<B::Expr, Error>
 
 /// A dict or a comprehension of one, behind `{`.
 #[cycle(expression)]
-fn dict<B: Build>(tokens: &mut Tokens, opening: Pos) -> Result<B::Expr, Error>
+fn dict<B: Make>(tokens: &mut Tokens, opening: Pos) -> Result<B::Expr, Error>
     ensures reads { (d : Dialect) (k : Frames) → Comes d (stands (member_wanted (brackets curly opening) tree.none false 0 0) k) (λ x. has (B.means x) tokens.new.last k) tokens.old result tokens.new }
     ensures shorter { OnOk result (length tokens.new.items < length tokens.old.items) }
 {

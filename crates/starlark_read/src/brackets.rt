@@ -19,13 +19,13 @@ use crate::expression::expression;
 use crate::kind::Kind;
 use crate::level::TEST;
 use crate::tokens::Tokens;
-use starlark_grammar::build::Build;
+use starlark_grammar::make::Make;
 use starlark_place::pos::{Pos, Span};
 
 /// The members of a tuple or a list behind the comma of the first, which begins at `begin`, with what closes them, and
 /// where they stand without it.
 #[cycle(expression)]
-pub(crate) fn members_behind<B: Build>(
+pub(crate) fn members_behind<B: Make>(
     tokens: &mut Tokens,
     closing: Kind,
     begin: Pos,
@@ -54,7 +54,7 @@ pub(crate) fn members_behind<B: Build>(
 
 /// A key and its value, where no dict ends.
 #[cycle(expression)]
-pub(crate) fn pair<B: Build>(tokens: &mut Tokens) -> Result<(B::Expr, B::Expr), Error>
+pub(crate) fn pair<B: Make>(tokens: &mut Tokens) -> Result<(B::Expr, B::Expr), Error>
     ensures reads { (d : Dialect) (b : ℕ) (ms : tree.Members) (t : Bool) (e f : ℕ) (k : Frames) → first_lexeme tokens.old.items ≢ Some closing_curly → Comes d (stands (member_wanted (brackets curly b) ms t e f) k) (λ x. stands (member_read (brackets curly b) (tree.more ms (tree.pair (B.means x.0) (B.means x.1))) tokens.new.last (first_at ms f (start tokens.old.items))) k) tokens.old result tokens.new }
     ensures shorter { OnOk result (length tokens.new.items < length tokens.old.items) }
 {
@@ -66,7 +66,7 @@ pub(crate) fn pair<B: Build>(tokens: &mut Tokens) -> Result<(B::Expr, B::Expr), 
 
 /// The pairs of a dict behind the comma of the first, with what closes them.
 #[cycle(expression)]
-pub(crate) fn pairs_behind<B: Build>(
+pub(crate) fn pairs_behind<B: Make>(
     tokens: &mut Tokens,
     first: (B::Expr, B::Expr),
 ) -> Result<Vec<(B::Expr, B::Expr)>, Error>

@@ -1,16 +1,14 @@
 //! Why reading stops.
 
-use starlark_place::pos::Spanned;
-use starlark_rulebook::rule::Rule;
 use std::alloc::{AllocError, AllocFailed};
 
 /// Why a function of the parser stops.
-#[derive(Drop)]
+#[derive(Clone, Copy)]
 pub(crate) enum Error {
     /// What stands ahead cannot stand there.
     Unexpected,
-    /// A construct breaks a rule, at this place.
-    Broken(Spanned<Rule>),
+    /// A construct breaks a rule: the tokens keep which one, and where.
+    Broken,
     /// Memory ran out.
     Memory,
 }

@@ -13,11 +13,11 @@ use crate::operators::operators;
 use crate::signs::{lambda, level_ahead, sign, signed};
 use crate::suffixes::suffixes;
 use crate::tokens::Tokens;
-use starlark_grammar::build::Build;
+use starlark_grammar::make::Make;
 
 /// An expression of a level.
 #[cycle(expression)]
-pub(crate) fn expression<B: Build>(tokens: &mut Tokens, level: u8) -> Result<B::Expr, Error>
+pub(crate) fn expression<B: Make>(tokens: &mut Tokens, level: u8) -> Result<B::Expr, Error>
     requires { level ≤ 12 }
     ensures reads { (d : Dialect) (k : Frames) → Comes d (wants level k) (λ x. has (B.means x) tokens.new.last k) tokens.old result tokens.new }
     ensures shorter { OnOk result (length tokens.new.items < length tokens.old.items) }

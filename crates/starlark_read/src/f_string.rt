@@ -16,7 +16,7 @@ use crate::expression::expression;
 use crate::kind::Kind;
 use crate::level::TEST;
 use crate::tokens::Tokens;
-use starlark_grammar::build::Build;
+use starlark_grammar::make::Make;
 use starlark_lexer::token::Token;
 use starlark_place::pos::{Pos, Spanned};
 use starlark_rulebook::rule::Rule;
@@ -41,7 +41,7 @@ pub(crate) fn opens_f_string(tokens: &mut Tokens) -> Result<bool, AllocError>
 
 /// An f-string behind its beginning.
 #[cycle(expression)]
-pub(crate) fn f_string<B: Build>(tokens: &mut Tokens, begin: Pos) -> Result<B::Expr, Error>
+pub(crate) fn f_string<B: Make>(tokens: &mut Tokens, begin: Pos) -> Result<B::Expr, Error>
     ensures reads { (d : Dialect) (k : Frames) → Comes d (stands (piece_wanted begin [] tree.none) k) (λ x. has (B.means x) tokens.new.last k) tokens.old result tokens.new }
     ensures shorter { OnOk result (length tokens.new.items < length tokens.old.items) }
 {
@@ -102,7 +102,7 @@ fn push_twice_if_brace(format: &mut String, c: char) -> Result<(), AllocError>
 
 /// A field behind its opening brace.
 #[cycle(expression)]
-fn field<B: Build>(tokens: &mut Tokens, format: &mut String) -> Result<B::Expr, Error>
+fn field<B: Make>(tokens: &mut Tokens, format: &mut String) -> Result<B::Expr, Error>
     ensures reads { (d : Dialect) (b : ℕ) (ms : tree.Members) (k : Frames) → Comes d (wants 12 (inside (field b (string_bytes format.old) ms) k)) (λ x. stands (piece_wanted b (string_bytes format.new) (tree.more ms (tree.item (B.means x)))) k) tokens.old result tokens.new }
     ensures shorter { OnOk result (length tokens.new.items < length tokens.old.items) }
 {
@@ -125,7 +125,7 @@ fn conversion(tokens: &mut Tokens, format: &mut String, begin: Pos) -> Result<()
     let Some(letters) = tokens.conversion() else {
         let span = tokens.conversion_place(begin);
         let node = Rule::FStringConversion;
-        return Err(Error::Broken(Spanned { span, node }));
+        return Err(tokens.stop(Spanned { span, node }));
     };
     tokens.skip()?;
     format.push_str(letters)?;

@@ -32,10 +32,8 @@ pub(crate) fn for_loop<B: Build>(
     tokens.expect(Kind::Colon)?;
     let body = suite::<B>(tokens, dialect)?;
     if let Some(fault) = B::target_fault(&targets) {
-        return Err(Error::Broken(fault));
+        return Err(tokens.stop(fault));
     }
-    let alloc = tokens.alloc();
-    let target = B::target(alloc, targets)?;
     let span = tokens.since(begin);
-    Ok(B::for_statement(alloc, target, over, body, span)?)
+    Ok(B::for_statement(tokens.alloc(), targets, over, body, span)?)
 }

@@ -13,13 +13,13 @@ use crate::error::Error;
 use crate::expression::expression;
 use crate::kind::Kind;
 use crate::tokens::Tokens;
-use starlark_grammar::build::Build;
+use starlark_grammar::make::Make;
 use starlark_place::pos::{Pos, Spanned};
 use starlark_rulebook::rule::Rule;
 
 /// An expression of a level, or several with commas between: those of a list without brackets. Behind it no comma stands.
 #[cycle(expression)]
-pub(crate) fn listed<B: Build>(tokens: &mut Tokens, level: u8) -> Result<B::Expr, Error>
+pub(crate) fn listed<B: Make>(tokens: &mut Tokens, level: u8) -> Result<B::Expr, Error>
     requires { level ≤ 12 }
     ensures reads { (d : Dialect) (k : Unbracketed) → level_of (kind_within k) ≡ level → Comes d (wants_first k) (λ x. has (B.means x) tokens.new.last (one_of k tree.none (start tokens.old.items))) tokens.old result tokens.new }
     ensures ends { OnOk result (first_lexeme tokens.new.items ≢ Some comma) }
@@ -32,7 +32,7 @@ pub(crate) fn listed<B: Build>(tokens: &mut Tokens, level: u8) -> Result<B::Expr
 
 /// The same behind its first expression, which begins at `begin`.
 #[cycle(expression)]
-pub(crate) fn listed_behind<B: Build>(
+pub(crate) fn listed_behind<B: Make>(
     tokens: &mut Tokens,
     level: u8,
     begin: Pos,
@@ -52,7 +52,7 @@ pub(crate) fn listed_behind<B: Build>(
         let span = tokens.since(begin);
         if !tokens.begins_test() {
             let node = Rule::TrailingComma;
-            return Err(Error::Broken(Spanned { span, node }));
+            return Err(tokens.stop(Spanned { span, node }));
         }
         let next = expression::<B>(tokens, level)?;
         members.push(next)?;

@@ -107,7 +107,7 @@ fn names(tokens: &mut Tokens) -> Result<(Spanned<String>, Spanned<String>), Erro
     if !tokens.accept(Kind::Equal)? {
         let span = local.span;
         let node = Rule::LoadIdentifier;
-        return Err(Error::Broken(Spanned { span, node }));
+        return Err(tokens.stop(Spanned { span, node }));
     }
     let Some(their) = text(tokens)? else {
         return Err(Error::Unexpected);

@@ -4,11 +4,12 @@ ghost use Rattle.std.specs.Prelude.{ℕ, ◌≡◌, ◌+◌, ◌<◌, ◌≤◌,
 ghost use Rattle.starlark_lexer.specs.declared.dialect.Dialect.{Dialect};
 ghost use Rattle.starlark_ast.specs.Tree as tree;
 ghost use Rattle.starlark_grammar.specs.Spans.{stretch};
-ghost use Rattle.starlark_grammar.specs.Tables.{associates};
+ghost use Rattle.starlark_grammar.specs.Tables.{associates, suffix};
 ghost use Rattle.starlark_grammar.specs.Points.{condition, operand};
 ghost use Rattle.starlark_grammar.specs.Frames.{Frames, has, inside, tail, wants};
 ghost use Rattle.starlark_grammar.specs.Machine.{tails};
-ghost use Rattle.starlark_read.specs.Reads.{Comes, grade_ahead, operator_ahead};
+ghost use Rattle.starlark_read.specs.Kinds.{token_of};
+ghost use Rattle.starlark_read.specs.Reads.{Comes, grade_ahead, operator_ahead, operator_of};
 
 use crate::error::Error;
 use crate::expression::expression;
@@ -16,12 +17,12 @@ use crate::kind::Kind;
 use crate::level::{COMPARISON, NOT, OR, TEST};
 use crate::tokens::Tokens;
 use starlark_ast::ast::BinOp;
-use starlark_grammar::build::Build;
+use starlark_grammar::make::Make;
 use starlark_place::pos::Span;
 
 /// The operators of the levels from `floor` to `level`, with their right sides, behind an expression.
 #[cycle(expression)]
-pub(crate) fn operators<B: Build>(
+pub(crate) fn operators<B: Make>(
     tokens: &mut Tokens,
     left: B::Expr,
     floor: u8,
@@ -56,7 +57,7 @@ pub(crate) fn operators<B: Build>(
 
 // the condition and what is there without it, behind the `if`
 #[cycle(expression)]
-fn choice<B: Build>(tokens: &mut Tokens, value: B::Expr) -> Result<B::Expr, Error>
+fn choice<B: Make>(tokens: &mut Tokens, value: B::Expr) -> Result<B::Expr, Error>
     ensures reads { (d : Dialect) (k : Frames) → Comes d (wants 11 (inside (condition (B.means value)) k)) (λ x. has (B.means x) tokens.new.last k) tokens.old result tokens.new }
     ensures shorter { OnOk result (length tokens.new.items < length tokens.old.items) }
 {
@@ -89,7 +90,14 @@ fn operator(tokens: &mut Tokens, level: u8) -> Result<BinOp, Error>
 fn operator_ahead(tokens: &Tokens) -> Option<BinOp>
     ensures { result ≡ operator_ahead tokens.now.items }
 {
-    match tokens.kind() {
+    operator_of(tokens.kind())
+}
+
+// the operator of that kind, one of a single token
+fn operator_of(kind: Kind) -> Option<BinOp>
+    ensures { result ≡ operator_of (suffix (token_of kind)) }
+{
+    match kind {
         Kind::Or => Some(BinOp::Or),
         Kind::And => Some(BinOp::And),
         Kind::EqualEqual => Some(BinOp::Equal),

@@ -16,12 +16,12 @@ use crate::kind::Kind;
 use crate::level::TEST;
 use crate::names::name;
 use crate::tokens::Tokens;
-use starlark_grammar::build::Build;
+use starlark_grammar::make::Make;
 use starlark_place::pos::Pos;
 
 /// The parameters of a lambda, with the colon behind them.
 #[cycle(expression)]
-pub(crate) fn lambda_parameters<B: Build>(tokens: &mut Tokens) -> Result<Vec<B::Parameter>, Error>
+pub(crate) fn lambda_parameters<B: Make>(tokens: &mut Tokens) -> Result<Vec<B::Parameter>, Error>
     ensures reads { (d : Dialect) (b : ℕ) (k : Frames) → Comes d (stands (member_wanted (before_body b) tree.none false 0 0) k) (λ ps. wants 12 (inside (body (members B.parameter_means ps.items) b) k)) tokens.old result tokens.new }
     ensures shorter { OnOk result (length tokens.new.items < length tokens.old.items) }
 {
@@ -46,11 +46,10 @@ pub(crate) fn lambda_parameters<B: Build>(tokens: &mut Tokens) -> Result<Vec<B::
 
 /// A parameter or a marker, where no colon stands.
 #[cycle(expression)]
-fn parameter<B: Build>(tokens: &mut Tokens) -> Result<B::Parameter, Error>
+fn parameter<B: Make>(tokens: &mut Tokens) -> Result<B::Parameter, Error>
     ensures reads { (d : Dialect) (b : ℕ) (ms : tree.Members) (t : Bool) (e f : ℕ) (k : Frames) → first_lexeme tokens.old.items ≢ Some colon → Comes d (stands (member_wanted (before_body b) ms t e f) k) (λ x. stands (member_read (before_body b) (tree.more ms (B.parameter_means x)) tokens.new.last (first_at ms f (start tokens.old.items))) k) tokens.old result tokens.new }
     ensures shorter { OnOk result (length tokens.new.items < length tokens.old.items) }
 {
-    let alloc = tokens.alloc();
     let begin = tokens.begin();
     if tokens.accept(Kind::Slash)? {
         return Ok(B::slash(tokens.since(begin)));
@@ -63,7 +62,7 @@ fn parameter<B: Build>(tokens: &mut Tokens) -> Result<B::Parameter, Error>
             return Err(Error::Unexpected);
         };
         let span = tokens.since(begin);
-        return Ok(B::kwargs_parameter(alloc, name, None, span)?);
+        return Ok(B::kwargs_parameter(name, span));
     }
     let Some(name) = name(tokens)? else {
         return Err(Error::Unexpected);
@@ -72,20 +71,19 @@ fn parameter<B: Build>(tokens: &mut Tokens) -> Result<B::Parameter, Error>
     if tokens.accept(Kind::Equal)? {
         let default = expression::<B>(tokens, TEST)?;
         let span = tokens.since(begin);
-        return Ok(B::parameter(alloc, name, None, Some(default), span)?);
+        return Ok(B::parameter(tokens.alloc(), name, Some(default), span)?);
     }
-    Ok(B::parameter(alloc, name, None, None, span)?)
+    Ok(B::parameter(tokens.alloc(), name, None, span)?)
 }
 
 /// A parameter behind its `*`, or the marker that this is.
-fn starred<B: Build>(tokens: &mut Tokens, begin: Pos) -> Result<B::Parameter, Error>
+fn starred<B: Make>(tokens: &mut Tokens, begin: Pos) -> Result<B::Parameter, Error>
     ensures reads { (d : Dialect) (b : ℕ) (ms : tree.Members) (f : ℕ) (k : Frames) → Comes d (stands (star_read b ms f begin tokens.old.last) k) (λ x. stands (member_read (before_body b) (tree.more ms (B.parameter_means x)) tokens.new.last f) k) tokens.old result tokens.new }
     ensures shorter { OnOk result (length tokens.new.items ≤ length tokens.old.items) }
 {
-    let alloc = tokens.alloc();
     let Some(name) = name(tokens)? else {
         return Ok(B::no_args(tokens.since(begin)));
     };
     let span = tokens.since(begin);
-    Ok(B::args_parameter(alloc, name, None, span)?)
+    Ok(B::args_parameter(name, span))
 }

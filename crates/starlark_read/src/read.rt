@@ -76,7 +76,7 @@ fn program<B: Build>(tokens: &mut Tokens, dialect: &Dialect) -> Result<B::Stmt, 
     let TopStatements { items, are_clean } = match statements::<B>(tokens, *dialect) {
         Ok(statements) => statements,
         Err(Error::Unexpected) => return Err(tokens.refusal()),
-        Err(Error::Broken(rule)) => return Err(Refused::Rule(rule)),
+        Err(Error::Broken) => return Err(tokens.rule_refusal()),
         Err(Error::Memory) => return Err(Refused::Memory),
     };
     if let Some(fault) = tokens.fault() {

@@ -20,6 +20,7 @@ use crate::names::name;
 use crate::tokens::Tokens;
 use crate::types::type_expression;
 use starlark_grammar::build::Build;
+use starlark_grammar::make::Make;
 use starlark_lexer::dialect::Dialect;
 use starlark_place::pos::{Pos, Spanned};
 
@@ -79,7 +80,7 @@ fn starred<B: Build>(
     };
     let ty = annotation::<B>(tokens, dialect)?;
     let span = tokens.since(begin);
-    Ok(B::args_parameter(tokens.alloc(), name, ty, span)?)
+    Ok(B::typed_args_parameter(name, ty, span))
 }
 
 /// A parameter behind its `**`.
@@ -96,7 +97,7 @@ fn double_starred<B: Build>(
     };
     let ty = annotation::<B>(tokens, dialect)?;
     let span = tokens.since(begin);
-    Ok(B::kwargs_parameter(tokens.alloc(), name, ty, span)?)
+    Ok(B::typed_kwargs_parameter(name, ty, span))
 }
 
 /// A parameter without stars, behind its name.
@@ -112,7 +113,7 @@ fn plain<B: Build>(
     let ty = annotation::<B>(tokens, dialect)?;
     let default = default_value::<B>(tokens)?;
     let span = tokens.since(begin);
-    Ok(B::parameter(tokens.alloc(), name, ty, default, span)?)
+    Ok(B::typed_parameter(tokens.alloc(), name, ty, default, span)?)
 }
 
 /// The type of a parameter behind its name, if one is written.
@@ -129,7 +130,7 @@ fn annotation<B: Build>(tokens: &mut Tokens, dialect: Dialect) -> Result<Option<
 }
 
 /// The default of a parameter without stars, if one is written.
-fn default_value<B: Build>(tokens: &mut Tokens) -> Result<Option<B::Expr>, Error>
+fn default_value<B: Make>(tokens: &mut Tokens) -> Result<Option<B::Expr>, Error>
     ensures reads { (d : Dialect) (h : Head) (ps : tree.Members) (n : tree.Name) (t : tree.Annotation) (p : ℕ) → IsWhole d t tokens.old.items → Comes d (behind_type h ps tree.plain n p t tokens.old.last) (λ q. behind_param h (tree.more ps (named tree.plain n t (bound_of B.means q) (stretch p tokens.new.last)))) tokens.old result tokens.new }
     ensures shorter { OnOk result (length tokens.new.items ≤ length tokens.old.items) }
 {

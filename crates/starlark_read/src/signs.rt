@@ -9,7 +9,9 @@ ghost use Rattle.starlark_grammar.specs.Nodes.{start};
 ghost use Rattle.starlark_grammar.specs.Points.{before_body, behind_sign, member_wanted};
 ghost use Rattle.starlark_grammar.specs.Frames.{Frames, has, inside, stands, wants};
 ghost use Rattle.starlark_grammar.specs.Machine.{tails};
-ghost use Rattle.starlark_read.specs.Reads.{Comes, begins_ahead, first_lexeme, sign_ahead};
+ghost use Rattle.starlark_grammar.specs.Tables.{beginning};
+ghost use Rattle.starlark_read.specs.Kinds.{token_of};
+ghost use Rattle.starlark_read.specs.Reads.{Comes, begins_ahead, begins_by, first_lexeme, sign_ahead, sign_in};
 
 use crate::error::Error;
 use crate::expression::expression;
@@ -17,8 +19,7 @@ use crate::kind::Kind;
 use crate::level::{NOT, PRIMARY, TEST, UNARY};
 use crate::parameters::lambda_parameters;
 use crate::tokens::Tokens;
-use starlark_grammar::build::Build;
-use starlark_grammar::make::Sign;
+use starlark_grammar::make::{Make, Sign};
 use starlark_place::pos::Pos;
 
 /// A sign, where one stands ahead: what is behind it is of that level.
@@ -40,7 +41,14 @@ pub(crate) fn sign(tokens: &mut Tokens, level: u8) -> Result<Sign, Error>
 fn sign_ahead(tokens: &Tokens) -> Option<Sign>
     ensures { maybe_sign result ≡ sign_ahead tokens.now.items }
 {
-    match tokens.kind() {
+    sign_of(tokens.kind())
+}
+
+// the sign of that kind
+fn sign_of(kind: Kind) -> Option<Sign>
+    ensures { maybe_sign result ≡ sign_in (beginning (token_of kind)) }
+{
+    match kind {
         Kind::Not => Some(Sign::Not),
         Kind::Minus => Some(Sign::Minus),
         Kind::Plus => Some(Sign::Plus),
@@ -63,7 +71,14 @@ pub(crate) fn level_ahead(tokens: &Tokens, level: u8) -> u8
 fn begins_at(tokens: &Tokens) -> u8
     ensures { result ≡ begins_ahead tokens.now.items }
 {
-    match tokens.kind() {
+    level_of(tokens.kind())
+}
+
+// the level of the sign or the lambda of that kind, or `PRIMARY`
+fn level_of(kind: Kind) -> u8
+    ensures { result ≡ begins_by (beginning (token_of kind)) }
+{
+    match kind {
         Kind::Minus | Kind::Plus | Kind::Tilde => UNARY,
         Kind::Not => NOT,
         Kind::Lambda => TEST,
@@ -73,7 +88,7 @@ fn begins_at(tokens: &Tokens) -> u8
 
 /// What a sign that begins there stands before, an expression of that level.
 #[cycle(expression)]
-pub(crate) fn signed<B: Build>(
+pub(crate) fn signed<B: Make>(
     tokens: &mut Tokens,
     begin: Pos,
     sign: Sign,
@@ -90,7 +105,7 @@ pub(crate) fn signed<B: Build>(
 
 /// The parameters and the body of a lambda that begins there.
 #[cycle(expression)]
-pub(crate) fn lambda<B: Build>(tokens: &mut Tokens, begin: Pos) -> Result<B::Expr, Error>
+pub(crate) fn lambda<B: Make>(tokens: &mut Tokens, begin: Pos) -> Result<B::Expr, Error>
     ensures reads { (d : Dialect) (k : Frames) → Comes d (stands (member_wanted (before_body begin) tree.none false 0 0) k) (λ x. has (B.means x) tokens.new.last k) tokens.old result tokens.new }
     ensures shorter { OnOk result (length tokens.new.items < length tokens.old.items) }
 {

@@ -14,11 +14,11 @@ use crate::expression::expression;
 use crate::kind::Kind;
 use crate::level::TEST;
 use crate::tokens::Tokens;
-use starlark_grammar::build::Build;
+use starlark_grammar::make::Make;
 
 /// What stands in square brackets behind an expression, behind the opening one.
 #[cycle(expression)]
-pub(crate) fn subscript<B: Build>(tokens: &mut Tokens, object: B::Expr) -> Result<B::Expr, Error>
+pub(crate) fn subscript<B: Make>(tokens: &mut Tokens, object: B::Expr) -> Result<B::Expr, Error>
     ensures reads { (d : Dialect) (k : Frames) → Comes d (stands (bound_wanted (B.means object) at_first) k) (λ x. has (B.means x) tokens.new.last k) tokens.old result tokens.new }
     ensures shorter { OnOk result (length tokens.new.items < length tokens.old.items) }
 {
@@ -39,7 +39,7 @@ pub(crate) fn subscript<B: Build>(tokens: &mut Tokens, object: B::Expr) -> Resul
 
 // the second of two, behind the comma
 #[cycle(expression)]
-fn index_of_two<B: Build>(
+fn index_of_two<B: Make>(
     tokens: &mut Tokens,
     object: B::Expr,
     first: B::Expr,
@@ -55,7 +55,7 @@ fn index_of_two<B: Build>(
 
 // a slice, behind its first colon
 #[cycle(expression)]
-fn slice<B: Build>(
+fn slice<B: Make>(
     tokens: &mut Tokens,
     object: B::Expr,
     from: Option<B::Expr>,
@@ -74,7 +74,7 @@ fn slice<B: Build>(
 
 // a slice, behind its second colon
 #[cycle(expression)]
-fn step<B: Build>(
+fn step<B: Make>(
     tokens: &mut Tokens,
     object: B::Expr,
     from: Option<B::Expr>,
@@ -91,7 +91,7 @@ fn step<B: Build>(
 
 // a bound of a slice, or none before a colon or the closing bracket
 #[cycle(expression)]
-fn bound<B: Build>(tokens: &mut Tokens) -> Result<Option<B::Expr>, Error>
+fn bound<B: Make>(tokens: &mut Tokens) -> Result<Option<B::Expr>, Error>
     ensures reads { (d : Dialect) (q : tree.Expr) (bs : Bounds) (k : Frames) → Comes d (stands (bound_wanted q bs) k) (λ o. bound_at q bs (bound_of B.means o) tokens.new.last k) tokens.old result tokens.new }
     ensures ended { IfOk result (λ o. MatchOption o ((first_lexeme tokens.new.items ≡ Some colon) ⊎ (first_lexeme tokens.new.items ≡ Some closing_square)) (λ x. ⊤)) }
     ensures shorter { OnOk result (length tokens.new.items ≤ length tokens.old.items) }

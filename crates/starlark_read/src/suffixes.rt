@@ -12,11 +12,11 @@ use crate::kind::Kind;
 use crate::operators::both;
 use crate::subscripts::subscript;
 use crate::tokens::Tokens;
-use starlark_grammar::build::Build;
+use starlark_grammar::make::Make;
 
 /// The suffixes behind an expression.
 #[cycle(expression)]
-pub(crate) fn suffixes<B: Build>(tokens: &mut Tokens, left: B::Expr) -> Result<B::Expr, Error>
+pub(crate) fn suffixes<B: Make>(tokens: &mut Tokens, left: B::Expr) -> Result<B::Expr, Error>
     ensures reads { (d : Dialect) (k : Frames) → Comes d (has (B.means left) tokens.old.last (tail 0 k)) (λ x. has (B.means x) tokens.new.last k) tokens.old result tokens.new }
     ensures shorter { OnOk result (length tokens.new.items ≤ length tokens.old.items) }
 {
@@ -35,7 +35,7 @@ pub(crate) fn suffixes<B: Build>(tokens: &mut Tokens, left: B::Expr) -> Result<B
 }
 
 // the name behind a dot
-fn attribute<B: Build>(tokens: &mut Tokens, object: B::Expr) -> Result<B::Expr, Error>
+fn attribute<B: Make>(tokens: &mut Tokens, object: B::Expr) -> Result<B::Expr, Error>
     ensures reads { (d : Dialect) (k : Frames) → Comes d (stands (attribute_wanted (B.means object)) k) (λ x. has (B.means x) tokens.new.last k) tokens.old result tokens.new }
     ensures shorter { OnOk result (length tokens.new.items < length tokens.old.items) }
 {

@@ -2,20 +2,22 @@
 
 ghost use Rattle.std.specs.Prelude.{◌≡◌, ◌≢◌, ◌≤◌, ◌+◌, ◌*◌, [], IfOk, MatchOption, Some, None, true, string_bytes, Err, max};
 ghost use Rattle.std.specs.Bool.{MatchBool};
-ghost use Rattle.starlark_place.specs.declared.pos.Spanned.{Spanned};
+ghost use Rattle.starlark_place.specs.Place.{Extent};
 ghost use Rattle.starlark_lexer.specs.Items.{item, lexeme_of, identifier, string};
-ghost use Rattle.starlark_rulebook.specs.declared.rule.Rule.{Rule};
+ghost use Rattle.starlark_rulebook.specs.Rules as broken;
+ghost use Rattle.starlark_rulebook.specs.View.{finding_of};
 ghost use Rattle.starlark_read.specs.Asides.{ahead_end, aside_of, counted};
 ghost use Rattle.starlark_grammar.specs.Events.{conversion_end};
 ghost use Rattle.starlark_read.specs.Counted.{kind_given};
 ghost use Rattle.starlark_read.specs.Gathered.{conversion_ahead};
 ghost use Rattle.starlark_read.specs.Kinds.{kind_ahead, is_plain, token_of};
-ghost use Rattle.starlark_grammar.specs.Language.{uncommented};
+ghost use Rattle.starlark_grammar.specs.Language.{by_rule, uncommented};
 ghost use Rattle.starlark_grammar.specs.Nodes.{start};
 ghost use Rattle.starlark_grammar.specs.Spans.{stretch};
+ghost use Rattle.starlark_grammar.specs.Tables.{grade_of, suffix};
 ghost use Rattle.starlark_grammar.specs.Verdicts.{begins_test};
 ghost use Rattle.starlark_read.specs.Refused.{fault_ahead, fault_of};
-ghost use Rattle.starlark_read.specs.Reads.{asks_left, left_of, with_ahead, first_lexeme, grade_ahead, name_ahead, string_ahead, Passes};
+ghost use Rattle.starlark_read.specs.Reads.{asks_left, left_of, stopped, with_ahead, first_lexeme, grade_ahead, name_ahead, string_ahead, Passes};
 ghost use Rattle.starlark_read.specs.Stops.{end_ahead};
 
 use crate::cost::Cost;
@@ -29,6 +31,7 @@ use crate::refused::Refused;
 use crate::told::Comments;
 use starlark_lexer::token::Token;
 use starlark_place::pos::{Pos, Span, Spanned};
+use starlark_rulebook::rule::Rule;
 use std::alloc::{AllocError, Global};
 use std::marker::Model;
 use std::mem;
@@ -43,6 +46,8 @@ pub(crate) struct Tokens {
     // of what stands ahead
     kind: Kind,
     last: Pos,
+    // the rule at which reading stopped
+    broken: Option<Spanned<Rule>>,
 }
 
 impl Model for Tokens {
@@ -73,6 +78,27 @@ fn kind_given(ahead: &Lookahead) -> Kind
     }
 }
 
+/// The level of the suffix or the operator of that kind, or `NONE`.
+fn grade(kind: Kind) -> u8
+    ensures { result ≡ grade_of (suffix (token_of kind)) }
+{
+    match kind {
+        Kind::Dot | Kind::OpeningRound | Kind::OpeningSquare => PRIMARY,
+        Kind::Star | Kind::Slash | Kind::SlashSlash | Kind::Percent => PRODUCT,
+        Kind::Plus | Kind::Minus => SUM,
+        Kind::LessLess | Kind::GreaterGreater => SHIFT,
+        Kind::Ampersand => BIT_AND,
+        Kind::Caret => BIT_XOR,
+        Kind::Pipe => BIT_OR,
+        Kind::EqualEqual | Kind::BangEqual | Kind::LessThan | Kind::GreaterThan => COMPARISON,
+        Kind::LessEqual | Kind::GreaterEqual | Kind::In | Kind::Not => COMPARISON,
+        Kind::And => AND,
+        Kind::Or => OR,
+        Kind::If => TEST,
+        _ => NONE,
+    }
+}
+
 impl Tokens {
     /// What the lexer gave first, and all that it has left.
     pub(crate) fn new(alloc: Global, feed: Feed, ahead: Lookahead) -> Tokens
@@ -86,6 +112,7 @@ impl Tokens {
             ahead,
             kind,
             last: Pos::new(0),
+            broken: None,
         }
     }
 
@@ -131,6 +158,27 @@ impl Tokens {
         match &self.ahead {
             Lookahead::Fault(error, span) => Some(Refused::Lexer(*error, place(span))),
             _ => None,
+        }
+    }
+
+    /// Stops at a broken rule, and keeps it.
+    pub(crate) fn stop(&mut self, fault: Spanned<Rule>) -> Error
+        ensures broken { result ≡ Error.Broken }
+        ensures kept { self.new ≡ stopped self.old (Some (finding_of fault)) }
+    {
+        self.broken = Some(fault);
+        Error::Broken
+    }
+
+    /// Why a text is refused whose reading stopped at a broken rule.
+    pub(crate) fn rule_refusal(&mut self) -> Refused
+        requires { self.old.broken ≢ None }
+        ensures rule { (r : broken.Rule) (s : Extent) → self.old.broken ≡ Some (broken.breaks r s) → fault_of result ≡ Some (by_rule r s) }
+        ensures kept { self.new ≡ stopped self.old None }
+    {
+        match self.broken.take() {
+            Some(rule) => Refused::Rule(rule),
+            None => unreachable!(),
         }
     }
 
@@ -182,21 +230,7 @@ impl Tokens {
     pub(crate) fn grade(&self) -> u8
         ensures { result ≡ grade_ahead self.now.items }
     {
-        match self.kind() {
-            Kind::Dot | Kind::OpeningRound | Kind::OpeningSquare => PRIMARY,
-            Kind::Star | Kind::Slash | Kind::SlashSlash | Kind::Percent => PRODUCT,
-            Kind::Plus | Kind::Minus => SUM,
-            Kind::LessLess | Kind::GreaterGreater => SHIFT,
-            Kind::Ampersand => BIT_AND,
-            Kind::Caret => BIT_XOR,
-            Kind::Pipe => BIT_OR,
-            Kind::EqualEqual | Kind::BangEqual | Kind::LessThan | Kind::GreaterThan => COMPARISON,
-            Kind::LessEqual | Kind::GreaterEqual | Kind::In | Kind::Not => COMPARISON,
-            Kind::And => AND,
-            Kind::Or => OR,
-            Kind::If => TEST,
-            _ => NONE,
-        }
+        grade(self.kind())
     }
 
     /// What a field of an f-string holds in its format where the next token is `s` or `r`, behind `!`.
@@ -284,7 +318,7 @@ impl Tokens {
         requires { is_plain want ≡ true }
         ensures read { IfOk result (λ u. Passes self.old (item (start self.old.items) (token_of want) self.new.last) self.new) }
         ensures unread { result ≡ Err Error.Unexpected → (self.new ≡ self.old) × (first_lexeme self.old.items ≢ Some (token_of want)) }
-        ensures no_rule { (f : Spanned Rule) → result ≡ Err (Error.Broken f) → ⊥ }
+        ensures no_rule { result ≡ Err Error.Broken → ⊥ }
     {
         if self.accept(want)? {
             Ok(())

@@ -28,13 +28,12 @@ pub(crate) fn type_expression<B: Build>(
 {
     let found = expression::<B>(tokens, TEST)?;
     if !has_types(dialect) {
-        return Err(Error::Broken(Spanned {
-            span: B::place(&found),
-            node: Rule::TypesDisabled,
-        }));
+        let span = B::place(&found);
+        let node = Rule::TypesDisabled;
+        return Err(tokens.stop(Spanned { span, node }));
     }
     if let Some(fault) = B::type_fault(tokens.alloc(), &found)? {
-        return Err(Error::Broken(fault));
+        return Err(tokens.stop(fault));
     }
     Ok(B::type_of(tokens.alloc(), found)?)
 }

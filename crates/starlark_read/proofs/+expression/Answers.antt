@@ -1,6 +1,6 @@
 use Rattle.std.proofs.Common.{◌+◌, ◌-◌, ◌≡◌, ◌∙◌, suc, refl, ap, sym, rules, arith, length, inl, inr, cond, true, string_bytes, [], ◌∷◌, ◌++◌, Some, false, ap₂}
 use Rattle.starlark_lexer.specs.Items.{keyword_lambda, keyword_if, dot, opening_round, opening_square, comma, closing_round, star, star_star, equal, colon, closing_square, opening_curly, keyword_for, closing_curly, fstring_end, fstring_expr_end, slash}
-use Rattle.starlark_grammar.specs.Made.{sign_of, bound_of, items_of, pairs_of, clauses_of}
+use Rattle.starlark_grammar.specs.Made.{sign_of, bound_of, goes_over, items_of, pairs_of, clauses_of}
 use Rattle.starlark_grammar.specs.Nodes.{start, operated, from}
 use Rattle.starlark_grammar.specs.Points.{behind_sign, body, operand, condition, otherwise, behind, first_at, an_argument, an_args, a_kwargs, member, a_named, at_first, at_second, at_third, bound, second, brackets, clauses_read, before_body}
 use Rattle.starlark_grammar.specs.Frames.{inside, wants, has, tail, stands, perhaps_named}
@@ -700,12 +700,12 @@ comprehension::clauses-returns-in_err-first-clause-reads g met c d p b m k q = e
 
 pub comprehension::clauses-loop-rest-init : goal.comprehension::clauses-loop-rest-init
 comprehension::clauses-loop-rest-init g met c = record {
-  reads = λ d p b m k. clauses_as _ ((c.in_ok-first.ensures.reads d p b m tree.no_clauses k).comes _ refl) (ap (clauses_of (tree.for_clause (g.B.Make.target_means c.in_ok-first.first.0) (g.B.Make.means c.in_ok-first.first.1)) g.B.Make.clause_means) c.new-rest.ensures.items);
+  reads = λ d p b m k. clauses_as _ ((c.in_ok-first.ensures.reads d p b m tree.no_clauses k).comes _ refl) (ap (clauses_of (g.B.Make.clause_means c.in_ok-first.first) g.B.Make.clause_means) c.new-rest.ensures.items);
   shorter = c.in_ok-first.ensures.shorter;
 }
 
-pub comprehension::clauses-returns-in_err-target-clause-reads : goal.comprehension::clauses-returns-in_err-target-clause-reads
-comprehension::clauses-returns-in_err-target-clause-reads g met c d p b m k q = exits (search rules) (c.loop-rest.invariant.reads d p b m k >> goes (read_it _ _ keyword_for _ c.if-branch.true c.in_ok-accept.ensures) refl refl) (c.in_err-target.ensures.reads d p b m _ k)
+pub comprehension::clauses-returns-in_err-next-clause-reads : goal.comprehension::clauses-returns-in_err-next-clause-reads
+comprehension::clauses-returns-in_err-next-clause-reads g met c d p b m k q = exits (search rules) (c.loop-rest.invariant.reads d p b m k >> goes (read_it _ _ keyword_for _ c.if-branch.true c.in_ok-accept.ensures) refl refl) (c.in_err-next.ensures.reads d p b m _ k)
 
 pub comprehension::clauses-returns-in_err-condition-clause-reads : goal.comprehension::clauses-returns-in_err-condition-clause-reads
 comprehension::clauses-returns-in_err-condition-clause-reads g met c d p b m k q =
@@ -727,17 +727,17 @@ comprehension::clauses-returns-else-branch-2-clause-reads g met c d p b m k q =
 pub comprehension::clauses-loop-rest-preserved-in-Continue-branch-4 : goal.comprehension::clauses-loop-rest-preserved-in-Continue-branch-4
 comprehension::clauses-loop-rest-preserved-in-Continue-branch-4 g met c =
     let p = read_it _ _ keyword_for _ c.if-branch.true c.in_ok-accept.ensures in
-    let one : clauses_of (tree.for_clause (g.B.Make.target_means c.in_ok-first.first.0) (g.B.Make.means c.in_ok-first.first.1)) g.B.Make.clause_means c.push.new.self.items ≡ tree.and_clause (clauses_of (tree.for_clause (g.B.Make.target_means c.in_ok-first.first.0) (g.B.Make.means c.in_ok-first.first.1)) g.B.Make.clause_means c.loop-rest.rest.items) (tree.for_clause (g.B.Make.target_means c.in_ok-target.target) (g.B.Make.means c.in_ok-target.over)) = ap (clauses_of (tree.for_clause (g.B.Make.target_means c.in_ok-first.first.0) (g.B.Make.means c.in_ok-first.first.1)) g.B.Make.clause_means) c.in_ok-push.ensures.items ∙ clause_more (tree.for_clause (g.B.Make.target_means c.in_ok-first.first.0) (g.B.Make.means c.in_ok-first.first.1)) g.B.Make.clause_means c.loop-rest.rest.items c.next_for.result ∙ ap (tree.and_clause (clauses_of (tree.for_clause (g.B.Make.target_means c.in_ok-first.first.0) (g.B.Make.means c.in_ok-first.first.1)) g.B.Make.clause_means c.loop-rest.rest.items)) c.next_for.ensures in
+    let one : clauses_of (g.B.Make.clause_means c.in_ok-first.first) g.B.Make.clause_means c.push.new.self.items ≡ tree.and_clause (clauses_of (g.B.Make.clause_means c.in_ok-first.first) g.B.Make.clause_means c.loop-rest.rest.items) (g.B.Make.clause_means c.in_ok-next.next) = ap (clauses_of (g.B.Make.clause_means c.in_ok-first.first) g.B.Make.clause_means) c.in_ok-push.ensures.items ∙ clause_more (g.B.Make.clause_means c.in_ok-first.first) g.B.Make.clause_means c.loop-rest.rest.items c.in_ok-next.next in
     record {
-      reads = λ d p' b m k. clauses_as _ (c.loop-rest.invariant.reads d p' b m k >> goes p refl refl >> (c.in_ok-target.ensures.reads d p' b m _ k).comes _ refl) one;
-      shorter = omega (arith, c.loop-rest.invariant.shorter, ap length p.items, c.in_ok-target.ensures.shorter);
+      reads = λ d p' b m k. clauses_as _ (c.loop-rest.invariant.reads d p' b m k >> goes p refl refl >> (c.in_ok-next.ensures.reads d p' b m _ k).comes _ refl) one;
+      shorter = omega (arith, c.loop-rest.invariant.shorter, ap length p.items, c.in_ok-next.ensures.shorter);
     }
 
 pub comprehension::clauses-loop-rest-preserved : goal.comprehension::clauses-loop-rest-preserved
 comprehension::clauses-loop-rest-preserved g met c =
     let a = left_it _ _ keyword_for _ c.if-branch.false c.in_ok-accept.ensures in
     let p = read_it _ _ keyword_if _ c.if-branch-2.true c.in_ok-accept-2.ensures in
-    let one : clauses_of (tree.for_clause (g.B.Make.target_means c.in_ok-first.first.0) (g.B.Make.means c.in_ok-first.first.1)) g.B.Make.clause_means c.push-then-branch-2.new.self.items ≡ tree.and_clause (clauses_of (tree.for_clause (g.B.Make.target_means c.in_ok-first.first.0) (g.B.Make.means c.in_ok-first.first.1)) g.B.Make.clause_means c.loop-rest.rest.items) (tree.if_clause (g.B.Make.means c.in_ok-condition.condition)) = ap (clauses_of (tree.for_clause (g.B.Make.target_means c.in_ok-first.first.0) (g.B.Make.means c.in_ok-first.first.1)) g.B.Make.clause_means) c.in_ok-push-2.ensures.items ∙ clause_more (tree.for_clause (g.B.Make.target_means c.in_ok-first.first.0) (g.B.Make.means c.in_ok-first.first.1)) g.B.Make.clause_means c.loop-rest.rest.items c.if_clause.result ∙ ap (tree.and_clause (clauses_of (tree.for_clause (g.B.Make.target_means c.in_ok-first.first.0) (g.B.Make.means c.in_ok-first.first.1)) g.B.Make.clause_means c.loop-rest.rest.items)) c.if_clause.ensures in
+    let one : clauses_of (g.B.Make.clause_means c.in_ok-first.first) g.B.Make.clause_means c.push-then-branch-2.new.self.items ≡ tree.and_clause (clauses_of (g.B.Make.clause_means c.in_ok-first.first) g.B.Make.clause_means c.loop-rest.rest.items) (tree.if_clause (g.B.Make.means c.in_ok-condition.condition)) = ap (clauses_of (g.B.Make.clause_means c.in_ok-first.first) g.B.Make.clause_means) c.in_ok-push-2.ensures.items ∙ clause_more (g.B.Make.clause_means c.in_ok-first.first) g.B.Make.clause_means c.loop-rest.rest.items c.if_clause.result ∙ ap (tree.and_clause (clauses_of (g.B.Make.clause_means c.in_ok-first.first) g.B.Make.clause_means c.loop-rest.rest.items)) c.if_clause.ensures in
     record {
       reads = λ d p' b m k. clauses_as _ (c.loop-rest.invariant.reads d p' b m k >> renamed a.0 >> goes p refl refl >> (c.in_ok-condition.ensures.reads d _).comes _ refl >> filter_ends _ _ _ _ _ _ _ _) one;
       shorter = omega (arith, c.loop-rest.invariant.shorter, ap (λ z. length z.items) a.0, ap length p.items, c.in_ok-condition.ensures.shorter);
@@ -753,10 +753,13 @@ pub comprehension::for_clause-returns-in_err-over-clause-reads : goal.comprehens
 comprehension::for_clause-returns-in_err-over-clause-reads g met c d p b m cs k = exits (search rules) ((c.in_ok-targets.ensures.reads d (in_clause p b m cs k) refl).comes _ refl >> in_follows p b m cs _ _ _ k _ _ c.in_ok-expect.ensures.read) (c.in_err-over.ensures.reads d _)
 
 pub comprehension::for_clause-returns-in-Some-clause-reads : goal.comprehension::for_clause-returns-in-Some-clause-reads
-comprehension::for_clause-returns-in-Some-clause-reads g met c d p b m cs k = halts (answers ((c.in_ok-targets.ensures.reads d (in_clause p b m cs k) refl).comes _ refl >> in_follows p b m cs _ _ _ k _ _ c.in_ok-expect.ensures.read >> (c.in_ok-over.ensures.reads d _).comes _ refl) (over_broken p b m cs _ _ _ k _ _ _ c.in-Some.is c.target_fault.ensures))
+comprehension::for_clause-returns-in-Some-clause-reads g met c d p b m cs k = halts c.stop.ensures.broken c.stop.ensures.kept (answers ((c.in_ok-targets.ensures.reads d (in_clause p b m cs k) refl).comes _ refl >> in_follows p b m cs _ _ _ k _ _ c.in_ok-expect.ensures.read >> (c.in_ok-over.ensures.reads d _).comes _ refl) (over_broken p b m cs _ _ _ k _ _ _ c.in-Some.is c.target_fault.ensures))
 
 pub comprehension::for_clause-returns-clause-reads : goal.comprehension::for_clause-returns-clause-reads
-comprehension::for_clause-returns-clause-reads g met c d p b m cs k = gives (state_is ((c.in_ok-targets.ensures.reads d (in_clause p b m cs k) refl).comes _ refl >> in_follows p b m cs _ _ _ k _ _ c.in_ok-expect.ensures.read >> (c.in_ok-over.ensures.reads d _).comes _ refl >> over_ends p b m cs _ _ _ k _ (right_target (g.B.Make.means c.in_ok-targets.targets) _ c.in_default.is c.target_fault.ensures)) (ap (λ z. stands (clauses_read p b m (tree.and_clause cs z)) k) (sym (ap₂ tree.for_clause c.in_ok-target.ensures refl))))
+comprehension::for_clause-returns-clause-reads g met c d p b m cs k = gives (state_is ((c.in_ok-targets.ensures.reads d (in_clause p b m cs k) refl).comes _ refl >> in_follows p b m cs _ _ _ k _ _ c.in_ok-expect.ensures.read >> (c.in_ok-over.ensures.reads d _).comes _ refl >> over_ends p b m cs _ _ _ k _ (right_target (g.B.Make.means c.in_ok-targets.targets) _ c.in_default.is c.target_fault.ensures)) (ap (λ z. stands (clauses_read p b m (tree.and_clause cs z)) k) (sym c.in_ok-for_clause.ensures)))
+
+pub comprehension::for_clause-returns-clause-over : goal.comprehension::for_clause-returns-clause-over
+comprehension::for_clause-returns-clause-over g met c = ap goes_over c.in_ok-for_clause.ensures
 
 pub listed::listed-returns-in_err-first-clause-reads : goal.listed::listed-returns-in_err-first-clause-reads
 listed::listed-returns-in_err-first-clause-reads g met c d k h = exits (search rules) (list_begins k _ _ h) (c.in_err-first.ensures.reads d _)
@@ -765,7 +768,7 @@ pub listed::listed-returns-clause-reads : goal.listed::listed-returns-clause-rea
 listed::listed-returns-clause-reads g met c d k h = behind_it (list_begins k _ _ h >> (c.in_ok-first.ensures.reads d _).comes _ refl) (listed_from k g.B.Make.means _ _ _ _ c.begin-begin.ensures (c.listed_behind.ensures.reads d k h))
 
 pub listed::listed_behind-expression-requires : goal.listed::listed_behind-expression-requires
-listed::listed_behind-expression-requires g met c = λ κs x. (omega (arith, c.loop-begin.invariant.shorter), (x.0, (x.1.0, (x.1.1.0, (x.1.1.1.0, (x.1.1.1.1.0, (x.1.1.1.1.1.0, (x.1.1.1.1.1.1.0, (x.1.1.1.1.1.1.1, c.requires)))))))))
+listed::listed_behind-expression-requires g met c = λ κs x. (omega (arith, c.loop-begin.invariant.shorter), (x.0, (x.1.0, (x.1.1.0, (x.1.1.1.0, (x.1.1.1.1, c.requires))))))
 
 pub listed::listed_behind-loop-begin-init : goal.listed::listed_behind-loop-begin-init
 listed::listed_behind-loop-begin-init g met c =
@@ -778,7 +781,7 @@ listed::listed_behind-loop-begin-init g met c =
     }
 
 pub listed::listed_behind-returns-then-not-begins_test-clause-reads : goal.listed::listed_behind-returns-then-not-begins_test-clause-reads
-listed::listed_behind-returns-then-not-begins_test-clause-reads g met c d k h = halts (answers (c.loop-begin.invariant.reads d k h) (list_broken_with k _ _ _ _ _ c.since-span.ensures c.loop-begin.invariant.filled (sym c.if-not-begins_test.ensures)))
+listed::listed_behind-returns-then-not-begins_test-clause-reads g met c d k h = halts c.stop.ensures.broken c.stop.ensures.kept (answers (c.loop-begin.invariant.reads d k h) (list_broken_with k _ _ _ _ _ c.since-span.ensures c.loop-begin.invariant.filled (sym c.if-not-begins_test.ensures)))
 
 pub listed::listed_behind-returns-in_err-next-clause-reads : goal.listed::listed_behind-returns-in_err-next-clause-reads
 listed::listed_behind-returns-in_err-next-clause-reads g met c d k h = exits (search rules) (c.loop-begin.invariant.reads d k h >> list_goes_on_with k _ _ _ _ _ c.loop-begin.invariant.filled h (sym c.if-not-begins_test.ensures)) (c.in_err-next.ensures.reads d _)
@@ -920,7 +923,7 @@ parameters::parameter-returns-then-branch-3-clause-reads g met c d b ms t e f k 
     let x = left_it _ _ slash _ c.if-branch.false c.in_ok-accept.ensures in
     let y = left_it _ _ star _ c.if-branch-2.false c.in_ok-accept-2.ensures in
     let p = named _ _ _ _ c.in-Some.is c.in_ok-name.ensures in
-    gives (member_as (stars_begin b ms t e f k _ _ (passes_from star_star (y.0 ∙ x.0) (read_it _ _ star_star _ c.if-branch-3.true c.in_ok-accept-3.ensures)) >> double_starred_read _ _ _ _ k _ _ _ p.1) (c.in_ok-kwargs_parameter.ensures ∙ spans_as tree.double_starred _ _ _ _ _ p.0 (placed _ _ _ c.since-span.ensures c.begin-begin.ensures)))
+    gives (member_as (stars_begin b ms t e f k _ _ (passes_from star_star (y.0 ∙ x.0) (read_it _ _ star_star _ c.if-branch-3.true c.in_ok-accept-3.ensures)) >> double_starred_read _ _ _ _ k _ _ _ p.1) (c.kwargs_parameter.ensures ∙ spans_as tree.double_starred _ _ _ _ _ p.0 (placed _ _ _ c.since-span.ensures c.begin-begin.ensures)))
 
 pub parameters::parameter-returns-in_default-2-clause-reads : goal.parameters::parameter-returns-in_default-2-clause-reads
 parameters::parameter-returns-in_default-2-clause-reads g met c d b ms t e f k n =

@@ -134,7 +134,7 @@ decreases-comprehension::clauses g l = 8 * length l.tokens.now.items + 6
 
 abbrev pub invariant-comprehension::clauses-loop-rest : goal.invariant-comprehension::clauses-loop-rest
 invariant-comprehension::clauses-loop-rest g l = record {
-  reads : (d : Dialect) (p : Bracket) (b : ℕ) (m : tree.Member) (k : Frames) → Goes d (stands (member_wanted (targets_in p b m tree.no_clauses) tree.none false 0 0) k) l.fn.tokens (stands (clauses_read p b m (clauses_of (tree.for_clause (g.B.Make.target_means l.first.0) (g.B.Make.means l.first.1)) g.B.Make.clause_means l.rest.items)) k) l.tokens;
+  reads : (d : Dialect) (p : Bracket) (b : ℕ) (m : tree.Member) (k : Frames) → Goes d (stands (member_wanted (targets_in p b m tree.no_clauses) tree.none false 0 0) k) l.fn.tokens (stands (clauses_read p b m (clauses_of (g.B.Make.clause_means l.first) g.B.Make.clause_means l.rest.items)) k) l.tokens;
   shorter : length l.tokens.items < length l.fn.tokens.items;
 }
 

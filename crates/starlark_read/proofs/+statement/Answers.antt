@@ -29,22 +29,22 @@ branches::branches-returns-in_err-body-clause-reads g met c k = exits (search ru
 pub branches::branches-returns-in_err-otherwise-clause-reads : goal.branches::branches-returns-in_err-otherwise-clause-reads
 branches::branches-returns-in_err-otherwise-clause-reads g met c k =
     let q = g.B.Make.means c.in_ok-condition.condition in
-    let s = g.B.Make.says c.in_ok-body.body in
+    let s = g.B.Build.says c.in_ok-body.body in
     let p = c.args.begin in
     exits (search rules) ((c.in_ok-condition.ensures.reads c.args.dialect (spot (test p k))).comes _ refl >> goes c.in_ok-expect.ensures.read refl refl >> (c.in_ok-body.ensures.reads (of_if q p k)).comes _ refl >> elif_begins q s p _ _ k _ _ c.begin-next.ensures (read_it _ _ keyword_elif _ c.if-branch.true c.in_ok-accept.ensures)) (c.in_err-otherwise.ensures.reads (at_elif q s p k))
 
 pub branches::branches-returns-then-branch-clause-reads : goal.branches::branches-returns-then-branch-clause-reads
 branches::branches-returns-then-branch-clause-reads g met c k =
     let q = g.B.Make.means c.in_ok-condition.condition in
-    let s = g.B.Make.says c.in_ok-body.body in
-    let r = g.B.Make.says c.in_ok-otherwise.otherwise in
+    let s = g.B.Build.says c.in_ok-body.body in
+    let r = g.B.Build.says c.in_ok-otherwise.otherwise in
     let p = c.args.begin in
     gives (settled_as k _ (either q s r (stretch p _)) ((c.in_ok-condition.ensures.reads c.args.dialect (spot (test p k))).comes _ refl >> goes c.in_ok-expect.ensures.read refl refl >> (c.in_ok-body.ensures.reads (of_if q p k)).comes _ refl >> elif_begins q s p _ _ k _ _ c.begin-next.ensures (read_it _ _ keyword_elif _ c.if-branch.true c.in_ok-accept.ensures) >> (c.in_ok-otherwise.ensures.reads (at_elif q s p k)).comes _ refl) (c.in_ok-if_else_statement.ensures ∙ ap (either q s r) c.since-span.ensures))
 
 pub branches::branches-returns-in_err-expect-2-clause-reads : goal.branches::branches-returns-in_err-expect-2-clause-reads
 branches::branches-returns-in_err-expect-2-clause-reads g met c k =
     let q = g.B.Make.means c.in_ok-condition.condition in
-    let s = g.B.Make.says c.in_ok-body.body in
+    let s = g.B.Build.says c.in_ok-body.body in
     let p = c.args.begin in
     let a = left_it _ _ keyword_elif _ c.if-branch.false c.in_ok-accept.ensures in
     missing (search rules) c.in_err-expect-2.ensures.unread c.in_err-expect-2.ensures.no_rule (λ h. sticks ((c.in_ok-condition.ensures.reads c.args.dialect (spot (test p k))).comes _ refl >> goes c.in_ok-expect.ensures.read refl refl >> (c.in_ok-body.ensures.reads (of_if q p k)).comes _ refl >> else_begins q s p _ k _ _ _ a.0 (read_it _ _ keyword_else _ c.if-branch-2.true c.in_ok-accept-2.ensures)) (stays_there h.0 (no_colon_next (of_else q s p k) _ h.1)))
@@ -52,7 +52,7 @@ branches::branches-returns-in_err-expect-2-clause-reads g met c k =
 pub branches::branches-returns-in_err-otherwise-2-clause-reads : goal.branches::branches-returns-in_err-otherwise-2-clause-reads
 branches::branches-returns-in_err-otherwise-2-clause-reads g met c k =
     let q = g.B.Make.means c.in_ok-condition.condition in
-    let s = g.B.Make.says c.in_ok-body.body in
+    let s = g.B.Build.says c.in_ok-body.body in
     let p = c.args.begin in
     let a = left_it _ _ keyword_elif _ c.if-branch.false c.in_ok-accept.ensures in
     exits (search rules) ((c.in_ok-condition.ensures.reads c.args.dialect (spot (test p k))).comes _ refl >> goes c.in_ok-expect.ensures.read refl refl >> (c.in_ok-body.ensures.reads (of_if q p k)).comes _ refl >> else_begins q s p _ k _ _ _ a.0 (read_it _ _ keyword_else _ c.if-branch-2.true c.in_ok-accept-2.ensures) >> goes c.in_ok-expect-2.ensures.read refl refl) (c.in_err-otherwise-2.ensures.reads (of_else q s p k))
@@ -60,8 +60,8 @@ branches::branches-returns-in_err-otherwise-2-clause-reads g met c k =
 pub branches::branches-returns-then-branch-2-clause-reads : goal.branches::branches-returns-then-branch-2-clause-reads
 branches::branches-returns-then-branch-2-clause-reads g met c k =
     let q = g.B.Make.means c.in_ok-condition.condition in
-    let s = g.B.Make.says c.in_ok-body.body in
-    let r = g.B.Make.says c.in_ok-otherwise-2.otherwise in
+    let s = g.B.Build.says c.in_ok-body.body in
+    let r = g.B.Build.says c.in_ok-otherwise-2.otherwise in
     let p = c.args.begin in
     let a = left_it _ _ keyword_elif _ c.if-branch.false c.in_ok-accept.ensures in
     gives (settled_as k _ (either q s r (stretch p _)) ((c.in_ok-condition.ensures.reads c.args.dialect (spot (test p k))).comes _ refl >> goes c.in_ok-expect.ensures.read refl refl >> (c.in_ok-body.ensures.reads (of_if q p k)).comes _ refl >> else_begins q s p _ k _ _ _ a.0 (read_it _ _ keyword_else _ c.if-branch-2.true c.in_ok-accept-2.ensures) >> goes c.in_ok-expect-2.ensures.read refl refl >> (c.in_ok-otherwise-2.ensures.reads (of_else q s p k)).comes _ refl) (c.in_ok-if_else_statement-2.ensures ∙ ap (either q s r) c.since-span-then-branch-2.ensures))
@@ -69,7 +69,7 @@ branches::branches-returns-then-branch-2-clause-reads g met c k =
 pub branches::branches-returns-clause-reads : goal.branches::branches-returns-clause-reads
 branches::branches-returns-clause-reads g met c k =
     let q = g.B.Make.means c.in_ok-condition.condition in
-    let s = g.B.Make.says c.in_ok-body.body in
+    let s = g.B.Build.says c.in_ok-body.body in
     let p = c.args.begin in
     let a = left_it _ _ keyword_elif _ c.if-branch.false c.in_ok-accept.ensures in
     let b = left_it _ _ keyword_else _ c.if-branch-2.false c.in_ok-accept-2.ensures in
@@ -93,8 +93,8 @@ pub definition::definition-returns-clause-reads : goal.definition::definition-re
 definition::definition-returns-clause-reads g met c k =
     let n = name_at (string_bytes c.in-Some.name.node) c.in-Some.name.span in
     let ps = members g.B.Make.parameter_means c.in_ok-parameters.parameters.items in
-    let t = annotation_of g.B.Make.type_means c.in_ok-ty.ty in
-    let s = g.B.Make.says c.in_ok-body.body in
+    let t = annotation_of g.B.Build.type_means c.in_ok-ty.ty in
+    let s = g.B.Build.says c.in_ok-body.body in
     let p = c.args.begin in
     gives (pushed_as k _ (define n ps t s (stretch p _)) (def_named p k _ _ _ _ (named _ _ _ _ c.in-Some.is c.in_ok-name.ensures) >> (c.in_ok-parameters.ensures.reads (head p n k)).comes _ refl >> (c.in_ok-ty.ensures.reads (head p n k) ps).comes _ refl >> (c.in_ok-body.ensures.reads (of_def (head p n k) ps t)).comes _ refl) (c.in_ok-def_statement.ensures ∙ ap (define n ps t s) c.since-span.ensures))
 
@@ -125,15 +125,15 @@ for_loop::for_loop-returns-in-Some-clause-reads g met c k =
     let l = g.B.Make.means c.in_ok-targets.targets in
     let q = g.B.Make.means c.in_ok-over.over in
     let p = c.args.begin in
-    halts (answers ((c.in_ok-targets.ensures.reads c.args.dialect (in_statement (target p k)) refl).comes _ refl >> goes c.in_ok-expect.ensures.read refl refl >> (c.in_ok-over.ensures.reads c.args.dialect (spot (source l p k))).comes _ refl >> goes c.in_ok-expect-2.ensures.read refl refl >> (c.in_ok-body.ensures.reads (of_for l q p k)).comes _ refl) (loop_broken l _ _ _ _ _ c.in-Some.is c.target_fault.ensures))
+    halts c.stop.ensures.broken c.stop.ensures.kept (answers ((c.in_ok-targets.ensures.reads c.args.dialect (in_statement (target p k)) refl).comes _ refl >> goes c.in_ok-expect.ensures.read refl refl >> (c.in_ok-over.ensures.reads c.args.dialect (spot (source l p k))).comes _ refl >> goes c.in_ok-expect-2.ensures.read refl refl >> (c.in_ok-body.ensures.reads (of_for l q p k)).comes _ refl) (loop_broken l _ _ _ _ _ c.in-Some.is c.target_fault.ensures))
 
 pub for_loop::for_loop-returns-clause-reads : goal.for_loop::for_loop-returns-clause-reads
 for_loop::for_loop-returns-clause-reads g met c k =
     let l = g.B.Make.means c.in_ok-targets.targets in
     let q = g.B.Make.means c.in_ok-over.over in
-    let s = g.B.Make.says c.in_ok-body.body in
+    let s = g.B.Build.says c.in_ok-body.body in
     let p = c.args.begin in
-    gives (pushed_as k _ (repeat (target_of l) q s (stretch p _)) ((c.in_ok-targets.ensures.reads c.args.dialect (in_statement (target p k)) refl).comes _ refl >> goes c.in_ok-expect.ensures.read refl refl >> (c.in_ok-over.ensures.reads c.args.dialect (spot (source l p k))).comes _ refl >> goes c.in_ok-expect-2.ensures.read refl refl >> (c.in_ok-body.ensures.reads (of_for l q p k)).comes _ refl >> loop_ends l _ _ _ (right_target l _ c.in_default.is c.target_fault.ensures)) (c.in_ok-for_statement.ensures ∙ ap₂ (λ y z. repeat y q s z) c.in_ok-target.ensures c.since-span.ensures))
+    gives (pushed_as k _ (repeat (target_of l) q s (stretch p _)) ((c.in_ok-targets.ensures.reads c.args.dialect (in_statement (target p k)) refl).comes _ refl >> goes c.in_ok-expect.ensures.read refl refl >> (c.in_ok-over.ensures.reads c.args.dialect (spot (source l p k))).comes _ refl >> goes c.in_ok-expect-2.ensures.read refl refl >> (c.in_ok-body.ensures.reads (of_for l q p k)).comes _ refl >> loop_ends l _ _ _ (right_target l _ c.in_default.is c.target_fault.ensures)) (c.in_ok-for_statement.ensures ∙ ap (repeat (target_of l) q s) c.since-span.ensures))
 
 pub statement::statement-returns-then-branch-clause-reads : goal.statement::statement-returns-then-branch-clause-reads
 statement::statement-returns-then-branch-clause-reads g met c k e z n d = behind_it (if_begins k e _ _ _ c.begin-begin.ensures (read_it _ _ keyword_if _ c.if-branch.true c.in_ok-accept.ensures)) (c.branches.ensures.reads (at_if k))
@@ -184,8 +184,8 @@ suite::indented-returns-clause-reads g met c k =
 
 pub suite::lines-loop-statements-init : goal.suite::lines-loop-statements-init
 suite::lines-loop-statements-init g met c = record {
-  reads = λ k e. lines_as _ (first_line k e _ _) (ap (sequence_of g.B.Make.says) c.new-statements.ensures.items);
-  empty = λ h. ap (sequence_of g.B.Make.says) c.new-statements.ensures.items;
+  reads = λ k e. lines_as _ (first_line k e _ _) (ap (sequence_of g.B.Build.says) c.new-statements.ensures.items);
+  empty = λ h. ap (sequence_of g.B.Build.says) c.new-statements.ensures.items;
   filled = λ h. absurd (h c.new-statements.ensures.len);
   shorter = omega arith;
 }
@@ -200,19 +200,19 @@ pub suite::lines-returns-in_err-next-clause-reads : goal.suite::lines-returns-in
 suite::lines-returns-in_err-next-clause-reads g met c k e =
     let a = left_it _ _ newline _ c.if-branch.false c.in_ok-accept.ensures in
     let l = is_line _ (sym c.begins_line.ensures ∙ c.if-begins_line.true) in
-    exits (search rules) (c.loop-statements.invariant.reads k e >> renamed a.0) (c.in_err-next.ensures.reads (inner (sequence_of g.B.Make.says c.loop-statements.statements.items) k) c.loop-statements.tokens.last l.0 (still a.0 a.1) l.1)
+    exits (search rules) (c.loop-statements.invariant.reads k e >> renamed a.0) (c.in_err-next.ensures.reads (inner (sequence_of g.B.Build.says c.loop-statements.statements.items) k) c.loop-statements.tokens.last l.0 (still a.0 a.1) l.1)
 
 pub suite::lines-loop-statements-preserved : goal.suite::lines-loop-statements-preserved
 suite::lines-loop-statements-preserved g met c =
     let a = left_it _ _ newline _ c.if-branch.false c.in_ok-accept.ensures in
     let l = is_line _ (sym c.begins_line.ensures ∙ c.if-begins_line.true) in
     let v = c.loop-statements.invariant in
-    let ss = sequence_of g.B.Make.says c.loop-statements.statements.items in
-    let one : sequence_of g.B.Make.says c.push.new.self.items ≡ add_statement ss (g.B.Make.says c.in_ok-next.next) = statement_more g.B.Make.says _ _ _ c.in_ok-push.ensures.items in
+    let ss = sequence_of g.B.Build.says c.loop-statements.statements.items in
+    let one : sequence_of g.B.Build.says c.push.new.self.items ≡ add_statement ss (g.B.Build.says c.in_ok-next.next) = statement_more g.B.Build.says _ _ _ c.in_ok-push.ensures.items in
     record {
       reads = λ k e. lines_as _ (v.reads k e >> renamed a.0 >> (c.in_ok-next.ensures.reads (inner ss k) c.loop-statements.tokens.last l.0 (still a.0 a.1) l.1).comes _ refl) one;
       empty = λ h. absurd (omega (arith, h, c.in_ok-push.ensures.len));
-      filled = λ h w. absurd (let n : add_statement ss (g.B.Make.says c.in_ok-next.next) ≡ no_statements = sym one ∙ w in (cc));
+      filled = λ h w. absurd (let n : add_statement ss (g.B.Build.says c.in_ok-next.next) ≡ no_statements = sym one ∙ w in (cc));
       shorter = omega (arith, v.shorter, ap (λ z. length z.items) a.0, c.in_ok-next.ensures.shorter);
     }
 
@@ -231,5 +231,5 @@ pub suite::lines-returns-else-is_empty-clause-reads : goal.suite::lines-returns-
 suite::lines-returns-else-is_empty-clause-reads g met c k e =
     let a = left_it _ _ newline _ c.if-branch.false c.in_ok-accept.ensures in
     let v = c.loop-statements.invariant in
-    let ss = sequence_of g.B.Make.says c.loop-statements.statements.items in
+    let ss = sequence_of g.B.Build.says c.loop-statements.statements.items in
     gives (v.reads k e >> renamed a.0 >> lines_end k ss _ c.loop-statements.tokens.last _ _ (v.filled (some_counted _ (sym c.is_empty.ensures ∙ c.if-is_empty.false))) (c.block.ensures ∙ ap (block_of ss) c.last-end.ensures) c.in_ok-expect.ensures.read)

@@ -37,9 +37,9 @@ decreases-suite::lines g l = 2 * length l.tokens.now.items + 1
 
 abbrev pub invariant-suite::lines-loop-statements : goal.invariant-suite::lines-loop-statements
 invariant-suite::lines-loop-statements g l = record {
-  reads : (k : Suites) (e : ℕ) → Goes l.fn.dialect (at_line (inner no_statements k) e) l.fn.tokens (at_line (inner (sequence_of g.B.Make.says l.statements.items) k) l.tokens.last) l.tokens;
-  empty : vec_len l.statements ≡ 0 → sequence_of g.B.Make.says l.statements.items ≡ no_statements;
-  filled : vec_len l.statements ≢ 0 → sequence_of g.B.Make.says l.statements.items ≢ no_statements;
+  reads : (k : Suites) (e : ℕ) → Goes l.fn.dialect (at_line (inner no_statements k) e) l.fn.tokens (at_line (inner (sequence_of g.B.Build.says l.statements.items) k) l.tokens.last) l.tokens;
+  empty : vec_len l.statements ≡ 0 → sequence_of g.B.Build.says l.statements.items ≡ no_statements;
+  filled : vec_len l.statements ≢ 0 → sequence_of g.B.Build.says l.statements.items ≢ no_statements;
   shorter : length l.tokens.items ≤ length l.fn.tokens.items;
 }
 

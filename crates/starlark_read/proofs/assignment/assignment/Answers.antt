@@ -48,7 +48,7 @@ returns-in_err-right-clause-reads g c k =
     let d = c.args.dialect in
     let p = c.begin-begin.result in
     let l = g.B.Make.means c.in_ok-left.left in
-    let t = annotation_of g.B.Make.type_means c.in_ok-ty.ty in
+    let t = annotation_of g.B.Build.type_means c.in_ok-ty.ty in
     let one = (c.in_ok-first.ensures.reads d (spot (first p k))).comes _ refl in
     let all = one >> left_begins _ _ p k _ c.if-stands.ensures c.if-stands-2.ensures >> (c.in_ok-left.ensures.reads d (in_statement (left p k)) refl).comes _ refl >> (c.in_ok-ty.ensures.reads l p k).comes _ refl >> (c.in_ok-op.ensures.reads d l t p k (c.in_ok-ty.ensures.whole c.in_ok-left.ensures.ends)).comes _ refl in
     begins_at p k _ c.begin-begin.ensures (exits (search rules) all (c.in_err-right.ensures.reads d (in_statement (right l t c.in_ok-op.op p k)) refl))
@@ -58,18 +58,18 @@ returns-in-Some-clause-reads g c k =
     let d = c.args.dialect in
     let p = c.begin-begin.result in
     let l = g.B.Make.means c.in_ok-left.left in
-    let t = annotation_of g.B.Make.type_means c.in_ok-ty.ty in
+    let t = annotation_of g.B.Build.type_means c.in_ok-ty.ty in
     let o = c.in_ok-op.op in
     let one = (c.in_ok-first.ensures.reads d (spot (first p k))).comes _ refl in
     let all = one >> left_begins _ _ p k _ c.if-stands.ensures c.if-stands-2.ensures >> (c.in_ok-left.ensures.reads d (in_statement (left p k)) refl).comes _ refl >> (c.in_ok-ty.ensures.reads l p k).comes _ refl >> (c.in_ok-op.ensures.reads d l t p k (c.in_ok-ty.ensures.whole c.in_ok-left.ensures.ends)).comes _ refl >> (c.in_ok-right.ensures.reads d (in_statement (right l t o p k)) refl).comes _ refl in
-    begins_at p k _ c.begin-begin.ensures (halts (answers all (right_broken l t o _ _ _ p k _ _ _ c.in-Some.is c.assignment_fault.ensures c.in_ok-right.ensures.ends)))
+    begins_at p k _ c.begin-begin.ensures (halts c.stop.ensures.broken c.stop.ensures.kept (answers all (right_broken l t o _ _ _ p k _ _ _ c.in-Some.is c.assignment_fault.ensures c.in_ok-right.ensures.ends)))
 
 pub returns-clause-reads : goal.returns-clause-reads
 returns-clause-reads g c k =
     let d = c.args.dialect in
     let p = c.begin-begin.result in
     let l = g.B.Make.means c.in_ok-left.left in
-    let t = annotation_of g.B.Make.type_means c.in_ok-ty.ty in
+    let t = annotation_of g.B.Build.type_means c.in_ok-ty.ty in
     let o = c.in_ok-op.op in
     let q = g.B.Make.means c.in_ok-right.right in
     let none : assignment_fault l t o ≡ None = sym c.assignment_fault.ensures ∙ ap maybe_finding c.in_default.is in

@@ -7,7 +7,7 @@ use Rattle.starlark_read.proofs.block.block.Goals as goal
 
 pub returns : goal.returns
 returns g c =
-    let f = g.B.Make.says in
+    let f = g.B.Build.says in
     let xs = c.args.statements.items in
     let b = c.begin_of-begin.result in
     let end : c.max.result ≡ max b c.args.end = search rules in

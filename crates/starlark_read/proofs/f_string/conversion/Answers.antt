@@ -5,7 +5,7 @@ use Rattle.starlark_read.proofs.Quoting.{no_letter, letters, letter_found, lette
 use Rattle.starlark_read.proofs.f_string.conversion.Goals as goal
 
 pub returns-in_default-clause-reads : goal.returns-in_default-clause-reads
-returns-in_default-clause-reads c d b ms q k = halts (no_letter b _ ms q _ _ k _ _ _ c.in_default.is c.conversion.ensures c.conversion_place-span.ensures)
+returns-in_default-clause-reads c d b ms q k = halts c.stop.ensures.broken c.stop.ensures.kept (no_letter b _ ms q _ _ k _ _ _ c.in_default.is c.conversion.ensures c.conversion_place-span.ensures)
 
 pub returns-in_err-expect-clause-reads : goal.returns-in_err-expect-clause-reads
 returns-in_err-expect-clause-reads c d b ms q k =

@@ -20,7 +20,7 @@ returns-then-not-branch-clause-reads c d p m ss k w =
     let t = none_of _ _ _ c.in_default.is c.in_ok-their.ensures in
     let l = some_of _ _ _ _ c.in-Some-2.is c.in_ok-local.ensures in
     let e = left_it _ _ equal _ c.if-not-branch.true c.in_ok-accept.ensures in
-    halts (answers (renamed t.0 >> local_read p m ss k _ _ _ _ l >> renamed e.0) (no_equal p m ss _ _ k _ (unlike e.0 e.1)))
+    halts c.stop.ensures.broken c.stop.ensures.kept (answers (renamed t.0 >> local_read p m ss k _ _ _ _ l >> renamed e.0) (no_equal p m ss _ _ k _ (unlike e.0 e.1)))
 
 pub returns-in_default-3-clause-reads : goal.returns-in_default-3-clause-reads
 returns-in_default-3-clause-reads c d p m ss k w =

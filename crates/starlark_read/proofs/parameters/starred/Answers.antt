@@ -11,4 +11,4 @@ returns-in_default-clause-reads g c d b ms f k = gives (star_is b ms f _ k _ (un
 pub returns-clause-reads : goal.returns-clause-reads
 returns-clause-reads g c d b ms f k =
     let p = named _ _ _ _ c.in-Some.is c.in_ok-name.ensures in
-    gives (member_as (starred_read b ms f _ _ k _ _ _ p.1) (c.in_ok-args_parameter.ensures ∙ spans_as tree.starred _ _ _ _ _ p.0 c.since-span.ensures))
+    gives (member_as (starred_read b ms f _ _ k _ _ _ p.1) (c.args_parameter.ensures ∙ spans_as tree.starred _ _ _ _ _ p.0 c.since-span.ensures))

@@ -11,17 +11,17 @@ returns-in_err-first-clause-reads g c k w = exits (search rules) begins (c.in_er
 
 pub returns-in_err-row_ends-clause-reads : goal.returns-in_err-row_ends-clause-reads
 returns-in_err-row_ends-clause-reads g c k w =
-    let s = g.B.Make.says c.in_ok-first.first in
+    let s = g.B.Build.says c.in_ok-first.first in
     exits (search rules) ((c.in_ok-first.ensures.reads (line no_statements k) w).comes _ refl) (c.in_err-row_ends.ensures.reads c.args.dialect s no_statements k)
 
 pub returns-then-branch-clause-reads : goal.returns-then-branch-clause-reads
 returns-then-branch-clause-reads g c k w =
-    let s = g.B.Make.says c.in_ok-first.first in
+    let s = g.B.Build.says c.in_ok-first.first in
     gives (row_over _ _ c.if-branch.true ((c.in_ok-first.ensures.reads (line no_statements k) w).comes _ refl >> (c.in_ok-row_ends.ensures.reads c.args.dialect s no_statements k).comes _ refl))
 
 pub loop-statements-init : goal.loop-statements-init
 loop-statements-init g c =
-    let f = g.B.Make.says in
+    let f = g.B.Build.says in
     let s = f c.in_ok-first.first in
     let one : sequence_of f c.push.new.self.items ≡ add_statement no_statements s = ap (sequence_of f) (c.in_ok-push.ensures.items ∙ ap (λ z. z ++ c.in_ok-first.first ∷ []) c.new-statements.ensures.items) in
     record {
@@ -33,20 +33,20 @@ loop-statements-init g c =
 pub returns-in_err-next-clause-reads : goal.returns-in_err-next-clause-reads
 returns-in_err-next-clause-reads g c k w =
     let v = c.loop-statements.invariant in
-    let done = sequence_of g.B.Make.says c.loop-statements.statements.items in
+    let done = sequence_of g.B.Build.says c.loop-statements.statements.items in
     exits (search rules) (v.reads k w) (c.in_err-next.ensures.reads (line done k) v.begins)
 
 pub returns-in_err-row_ends-2-clause-reads : goal.returns-in_err-row_ends-2-clause-reads
 returns-in_err-row_ends-2-clause-reads g c k w =
     let v = c.loop-statements.invariant in
-    let f = g.B.Make.says in
+    let f = g.B.Build.says in
     let done = sequence_of f c.loop-statements.statements.items in
     exits (search rules) (v.reads k w >> (c.in_ok-next.ensures.reads (line done k) v.begins).comes _ refl) (c.in_err-row_ends-2.ensures.reads c.args.dialect (f c.in_ok-next.next) done k)
 
 pub returns-then-branch-2-clause-reads : goal.returns-then-branch-2-clause-reads
 returns-then-branch-2-clause-reads g c k w =
     let v = c.loop-statements.invariant in
-    let f = g.B.Make.says in
+    let f = g.B.Build.says in
     let done = sequence_of f c.loop-statements.statements.items in
     let more = statement_more f _ _ _ c.in_ok-push-2.ensures.items in
     gives (row_is k _ _ _ _ _ (row_over _ _ c.if-branch-2.true (v.reads k w >> (c.in_ok-next.ensures.reads (line done k) v.begins).comes _ refl >> (c.in_ok-row_ends-2.ensures.reads c.args.dialect (f c.in_ok-next.next) done k).comes _ refl)) c.block.ensures more c.last.ensures)
@@ -54,7 +54,7 @@ returns-then-branch-2-clause-reads g c k w =
 pub loop-statements-preserved : goal.loop-statements-preserved
 loop-statements-preserved g c =
     let v = c.loop-statements.invariant in
-    let f = g.B.Make.says in
+    let f = g.B.Build.says in
     let done = sequence_of f c.loop-statements.statements.items in
     let more = statement_more f _ _ _ c.in_ok-push-2.ensures.items in
     record {

@@ -8,7 +8,7 @@ use Rattle.starlark_read.proofs.row.row.Given as goal
 
 abbrev pub invariant-loop-statements : goal.invariant-loop-statements
 invariant-loop-statements g l = record {
-  reads : (k : Rows) → first_lexeme l.fn.tokens.items ≢ Some newline → Goes l.fn.dialect (wants_small (line no_statements k)) l.fn.tokens (wants_small (line (sequence_of g.B.Make.says l.statements.items) k)) l.tokens;
+  reads : (k : Rows) → first_lexeme l.fn.tokens.items ≢ Some newline → Goes l.fn.dialect (wants_small (line no_statements k)) l.fn.tokens (wants_small (line (sequence_of g.B.Build.says l.statements.items) k)) l.tokens;
   begins : first_lexeme l.tokens.items ≢ Some newline;
   shorter : length l.tokens.items < length l.fn.tokens.items;
 }

@@ -18,4 +18,4 @@ returns-in_err-ty-clause-reads g c h ps =
 pub returns-clause-reads : goal.returns-clause-reads
 returns-clause-reads g c h ps =
     let p = named _ _ _ _ c.in-Some.is c.in_ok-name.ensures in
-    gives (param_is _ (name_is _ (goes p.1 refl refl) p.0 >> (c.in_ok-ty.ensures.reads h ps tree.double_starred _ _).comes _ refl >> type_ends h ps tree.double_starred _ _ _ _ _ c.in_ok-ty.ensures.whole tt) (param_placed c.in_ok-kwargs_parameter.ensures c.since-span.ensures))
+    gives (param_is _ (name_is _ (goes p.1 refl refl) p.0 >> (c.in_ok-ty.ensures.reads h ps tree.double_starred _ _).comes _ refl >> type_ends h ps tree.double_starred _ _ _ _ _ c.in_ok-ty.ensures.whole tt) (param_placed c.typed_kwargs_parameter.ensures c.since-span.ensures))

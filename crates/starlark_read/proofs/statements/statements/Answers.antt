@@ -12,8 +12,8 @@ use Rattle.starlark_read.proofs.statements.statements.Goals as goal
 
 pub loop-found-init : goal.loop-found-init
 loop-found-init g c = record {
-  reads = state_is begins (ap (λ xs. at_line (outer (sequence_of g.B.Make.says xs)) c.args.tokens.now.last) (sym c.new-found.ensures.items));
-  clean = λ h. subst (EndsClean _) (ap (sequence_of g.B.Make.says) (sym c.new-found.ensures.items)) (record { kept = refl; stands = refl; inside = refl });
+  reads = state_is begins (ap (λ xs. at_line (outer (sequence_of g.B.Build.says xs)) c.args.tokens.now.last) (sym c.new-found.ensures.items));
+  clean = λ h. subst (EndsClean _) (ap (sequence_of g.B.Build.says) (sym c.new-found.ensures.items)) (record { kept = refl; stands = refl; inside = refl });
 }
 
 pub loop-found-preserved-then-branch : goal.loop-found-preserved-then-branch
@@ -28,13 +28,13 @@ returns-in-End-clause-clean g c h e = clean_end _ _ e (c.loop-found.invariant.cl
 pub returns-in-Dedent-clause-reads : goal.returns-in-Dedent-clause-reads
 returns-in-Dedent-clause-reads g c =
     let n = left_it _ _ newline _ c.if-branch.false c.in_ok-accept.ensures in
-    let ss = sequence_of g.B.Make.says c.loop-found.found.items in
+    let ss = sequence_of g.B.Build.says c.loop-found.found.items in
     refuses (sticks (c.loop-found.invariant.reads >> renamed n.0) (no_suite_end ss _ _ (stands _ kind.Dedent refl (sym c.kind.ensures ∙ c.in-Dedent.is))))
 
 pub returns-in_err-next-in_default : goal.returns-in_err-next-in_default
 returns-in_err-next-in_default g c =
     let n = left_it _ _ newline _ c.if-branch.false c.in_ok-accept.ensures in
-    let ss = sequence_of g.B.Make.says c.loop-found.found.items in
+    let ss = sequence_of g.B.Build.says c.loop-found.found.items in
     let there = some_there _ (λ h. c.in_default.not-End (c.kind.ensures ∙ h)) in
     let inside = stands_not _ kind.Dedent refl (λ h. c.in_default.not-Dedent (c.kind.ensures ∙ h)) in
     record {
@@ -46,7 +46,7 @@ returns-in_err-next-in_default g c =
 pub loop-found-preserved : goal.loop-found-preserved
 loop-found-preserved g c =
     let n = left_it _ _ newline _ c.if-branch.false c.in_ok-accept.ensures in
-    let f = g.B.Make.says in
+    let f = g.B.Build.says in
     let ss = sequence_of f c.loop-found.found.items in
     let there = some_there _ (λ h. c.in_default.not-End (c.kind.ensures ∙ h)) in
     let inside = stands_not _ kind.Dedent refl (λ h. c.in_default.not-Dedent (c.kind.ensures ∙ h)) in

@@ -8,8 +8,8 @@ use Rattle.starlark_read.proofs.statements.statements.Given as goal
 
 abbrev pub invariant-loop-found : goal.invariant-loop-found
 invariant-loop-found g l = record {
-  reads : Goes l.fn.dialect (at_line (outer no_statements) l.fn.tokens.last) l.fn.tokens (at_line (outer (sequence_of g.B.Make.says l.found.items)) l.tokens.last) l.tokens;
-  clean : l.are_clean ≡ true → EndsClean l.fn.dialect (sequence_of g.B.Make.says l.found.items);
+  reads : Goes l.fn.dialect (at_line (outer no_statements) l.fn.tokens.last) l.fn.tokens (at_line (outer (sequence_of g.B.Build.says l.found.items)) l.tokens.last) l.tokens;
+  clean : l.are_clean ≡ true → EndsClean l.fn.dialect (sequence_of g.B.Build.says l.found.items);
 }
 
 abbrev pub decreases-loop-found : goal.decreases-loop-found

@@ -14,13 +14,13 @@ pub returns-then-not-has_types-clause-reads : goal.returns-then-not-has_types-cl
 returns-then-not-has_types-clause-reads g c k w =
     let q = g.B.Make.means c.in_ok-found.found in
     let d = c.args.dialect in
-    halts (answers ((c.in_ok-found.ensures.reads d (spot k)).comes _ refl) (broken _ (typed q) _ (w q) (types_off d q _ (sym c.has_types.ensures ∙ c.if-not-has_types.true) c.place.ensures)))
+    halts c.stop.ensures.broken c.stop.ensures.kept (answers ((c.in_ok-found.ensures.reads d (spot k)).comes _ refl) (broken _ (typed q) _ (w q) (types_off d q _ (sym c.has_types.ensures ∙ c.if-not-has_types.true) c.place-span.ensures)))
 
 pub returns-in-Some-clause-reads : goal.returns-in-Some-clause-reads
 returns-in-Some-clause-reads g c k w =
     let q = g.B.Make.means c.in_ok-found.found in
     let d = c.args.dialect in
-    halts (answers ((c.in_ok-found.ensures.reads d (spot k)).comes _ refl) (broken _ (typed q) _ (w q) (types_on d q _ (sym c.has_types.ensures ∙ c.if-not-has_types.false) (sym (ap maybe_finding c.in-Some.is) ∙ c.in_ok-fault.ensures))))
+    halts c.stop-in-Some.ensures.broken c.stop-in-Some.ensures.kept (answers ((c.in_ok-found.ensures.reads d (spot k)).comes _ refl) (broken _ (typed q) _ (w q) (types_on d q _ (sym c.has_types.ensures ∙ c.if-not-has_types.false) (sym (ap maybe_finding c.in-Some.is) ∙ c.in_ok-fault.ensures))))
 
 pub type_of-requires : goal.type_of-requires
 type_of-requires g c = sym c.in_ok-fault.ensures ∙ ap maybe_finding c.in_default.is

@@ -1,6 +1,6 @@
 use Rattle.std.proofs.Common.{ap, ◌∙◌}
 use Rattle.starlark_make.proofs.Making.{def_of}
-use Rattle.starlark_make.proofs.trees.TreesMake.def_statement.Goals as goal
+use Rattle.starlark_make.proofs.statements.TreesBuild.def_statement.Goals as goal
 
 pub returns : goal.returns
 returns c =
