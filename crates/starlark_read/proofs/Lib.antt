@@ -1,6 +1,7 @@
 pub mod Plain
 pub mod Exits
 pub mod Gathering
+pub mod Texts
 pub mod Listing
 pub mod Naming
 pub mod Quoting

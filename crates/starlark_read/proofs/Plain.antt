@@ -1,12 +1,16 @@
 -- The kinds of tokens without payload.
 use Rattle.std.proofs.Common.{◌≡◌, ◌≢◌, List, [], ◌∷◌, Some, None, Bool, true, false, refl, ap, sym, ◌∙◌}
 use Rattle.std.specs.Bool.{MatchBool}
-use Rattle.starlark_lexer.specs.Items.{Lexeme, Item, comment, identifier, integer, float, string, bytes, fstring_start, fstring_text}
+use Rattle.starlark_lexer.specs.Items.{Lexeme, Item, dedent, comment, identifier, integer, float, string, bytes, fstring_start, fstring_text}
 use Rattle.starlark_read.specs.declared.kind.Kind.{Kind}
 use Rattle.starlark_read.specs.declared.kind.Kind.TheVariants as kind
 use Rattle.starlark_read.specs.Kinds.{kind_of, kind_ahead, is_plain, token_of}
+use Rattle.starlark_grammar.specs.Sorts.{is_some}
 use Rattle.starlark_grammar.specs.Tables.{assigner, beginning, grade_of, suffix}
+use Rattle.starlark_grammar.specs.Verdicts.{begins_test}
 use Rattle.starlark_read.specs.Assigning.{assign_op_ahead, operation_of}
+use Rattle.starlark_read.specs.Gathered.{is_leaf, leaf_ahead}
+use Rattle.starlark_read.specs.Lines.{begins_line, line_ahead, line_of}
 use Rattle.starlark_read.specs.Reads.{begins_ahead, begins_by, first_lexeme, grade_ahead, operator_ahead, operator_of, sign_ahead, sign_in}
 
 -- a token of such a kind is the one of the kind
@@ -60,6 +64,30 @@ grades_alike (x ∷ xs) = alike x.lexeme
   where
     alike : (l : Lexeme) → grade_of (suffix (token_of (kind_of l))) ≡ grade_of (suffix l)
     alike (comment t) = refl
+    alike _ = refl
+
+pub tests_alike : (xs : List Item) → is_some (beginning (token_of (kind_ahead xs))) ≡ begins_test xs
+tests_alike [] = refl
+tests_alike (x ∷ xs) = alike x.lexeme
+  where
+    alike : (l : Lexeme) → is_some (beginning (token_of (kind_of l))) ≡ is_some (beginning l)
+    alike (comment t) = refl
+    alike _ = refl
+
+pub leaves_alike : (xs : List Item) → is_leaf (beginning (token_of (kind_ahead xs))) ≡ leaf_ahead xs
+leaves_alike [] = refl
+leaves_alike (x ∷ xs) = alike x.lexeme
+  where
+    alike : (l : Lexeme) → is_leaf (beginning (token_of (kind_of l))) ≡ is_leaf (beginning l)
+    alike (comment t) = refl
+    alike _ = refl
+
+pub lines_alike : (xs : List Item) → line_of (kind_ahead xs) ≡ line_ahead xs
+lines_alike [] = refl
+lines_alike (x ∷ xs) = alike x.lexeme
+  where
+    alike : (l : Lexeme) → line_of (kind_of l) ≡ begins_line l
+    alike dedent = refl
     alike _ = refl
 
 pub operators_alike : (xs : List Item) → operator_of (suffix (token_of (kind_ahead xs))) ≡ operator_ahead xs

@@ -1,6 +1,7 @@
 -- The kind of a token: what it is beside its payload.
-use Rattle.std.specs.Prelude.{List, [], ◌∷◌, Bool, true, false}
-use Rattle.starlark_lexer.specs.Items.{Lexeme, Item, newline, indent, dedent, comment, identifier, integer, float, string, bytes, fstring_start, fstring_text, fstring_expr_start, fstring_bang, fstring_expr_end, fstring_end, keyword_and, keyword_break, keyword_continue, keyword_def, keyword_elif, keyword_else, keyword_for, keyword_if, keyword_in, keyword_lambda, keyword_load, keyword_not, keyword_or, keyword_pass, keyword_return, comma, semicolon, colon, equal, plus_equal, minus_equal, star_equal, slash_equal, slash_slash_equal, percent_equal, ampersand_equal, pipe_equal, caret_equal, less_less_equal, greater_greater_equal, equal_equal, bang_equal, less_than, greater_than, less_equal, greater_equal, plus, minus, star, star_star, slash, slash_slash, percent, ampersand, pipe, caret, less_less, greater_greater, tilde, dot, ellipsis, minus_greater, opening_round, closing_round, opening_square, closing_square, opening_curly, closing_curly}
+use Rattle.std.specs.Prelude.{ℕ, List, [], ◌∷◌, Bool, true, false}
+use Rattle.starlark_lexer.specs.Items.{Lexeme, Item, big, newline, indent, dedent, comment, identifier, integer, float, string, bytes, fstring_start, fstring_text, fstring_expr_start, fstring_bang, fstring_expr_end, fstring_end, keyword_and, keyword_break, keyword_continue, keyword_def, keyword_elif, keyword_else, keyword_for, keyword_if, keyword_in, keyword_lambda, keyword_load, keyword_not, keyword_or, keyword_pass, keyword_return, comma, semicolon, colon, equal, plus_equal, minus_equal, star_equal, slash_equal, slash_slash_equal, percent_equal, ampersand_equal, pipe_equal, caret_equal, less_less_equal, greater_greater_equal, equal_equal, bang_equal, less_than, greater_than, less_equal, greater_equal, plus, minus, star, star_star, slash, slash_slash, percent, ampersand, pipe, caret, less_less, greater_greater, tilde, dot, ellipsis, minus_greater, opening_round, closing_round, opening_square, closing_square, opening_curly, closing_curly}
+use Rattle.starlark_lexer.specs.declared.token.FStringQuote.TheVariants as quote
 use Rattle.starlark_read.specs.declared.kind.Kind.{Kind}
 use Rattle.starlark_read.specs.declared.kind.Kind.TheVariants as kind
 
@@ -97,8 +98,27 @@ is_plain kind.FStringText = false
 is_plain kind.End = false
 is_plain _ = true
 
--- the token of a kind without payload
+-- tokens of the kind have a text
+abbrev pub has_text : Kind → Bool
+has_text kind.Identifier = true
+has_text kind.String = true
+has_text kind.FStringText = true
+has_text _ = false
+
+-- the token of such a kind with that text
+abbrev pub with_text : Kind → List ℕ → Lexeme
+with_text kind.Identifier t = identifier t
+with_text kind.String t = string t
+with_text _ t = fstring_text t
+
+-- the token of a kind without payload, and one of a kind with a payload that an expression begins with
 abbrev pub token_of : Kind → Lexeme
+token_of kind.Identifier = identifier []
+token_of kind.Int = integer (big [] false 0)
+token_of kind.Float = float []
+token_of kind.String = string []
+token_of kind.Bytes = bytes []
+token_of kind.FStringStart = fstring_start quote.Single
 token_of kind.Newline = newline
 token_of kind.Indent = indent
 token_of kind.Dedent = dedent

@@ -14,6 +14,7 @@ use crate::error::Error;
 use crate::expression::expression;
 use crate::kind::Kind;
 use crate::level::{TEST, UNARY};
+use crate::lists::push;
 use crate::operators::operators;
 use crate::suffixes::suffixes;
 use crate::tokens::Tokens;
@@ -43,7 +44,7 @@ fn arguments<B: Make>(tokens: &mut Tokens) -> Result<Vec<B::Argument>, Error>
             return Ok(found);
         }
         let next = argument::<B>(tokens)?;
-        found.push(next)?;
+        push(&mut found, next)?;
         if !tokens.accept(Kind::Comma)? {
             tokens.expect(Kind::ClosingRound)?;
             return Ok(found);

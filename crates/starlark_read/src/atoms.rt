@@ -3,10 +3,11 @@
 ghost use Rattle.std.specs.Prelude.{◌≡◌, ◌<◌, false, OnOk, length};
 ghost use Rattle.starlark_lexer.specs.declared.dialect.Dialect.{Dialect};
 ghost use Rattle.starlark_ast.specs.Tree as tree;
-ghost use Rattle.starlark_grammar.specs.Tables.{round, square, curly};
+ghost use Rattle.starlark_grammar.specs.Tables.{beginning, round, square, curly};
 ghost use Rattle.starlark_grammar.specs.Points.{brackets, member_wanted};
 ghost use Rattle.starlark_grammar.specs.Frames.{Frames, tail, stands, wants, has};
-ghost use Rattle.starlark_read.specs.Gathered.{leaf_ahead, opening_ahead};
+ghost use Rattle.starlark_read.specs.Gathered.{is_leaf, leaf_ahead, opening_ahead};
+ghost use Rattle.starlark_read.specs.Kinds.{token_of};
 ghost use Rattle.starlark_read.specs.Reads.{Comes};
 
 use crate::brackets::{members_behind, pair, pairs_behind};
@@ -16,6 +17,7 @@ use crate::expression::expression;
 use crate::f_string::{f_string, opens_f_string};
 use crate::kind::Kind;
 use crate::level::TEST;
+use crate::lists::single;
 use crate::tokens::Tokens;
 use starlark_grammar::make::Make;
 use starlark_lexer::token::Token;
@@ -47,7 +49,14 @@ pub(crate) fn atom<B: Make>(tokens: &mut Tokens) -> Result<B::Expr, Error>
 fn begins_leaf(tokens: &Tokens) -> bool
     ensures { result ≡ leaf_ahead tokens.now.items }
 {
-    match tokens.kind() {
+    is_leaf(tokens.kind())
+}
+
+/// Whether a token of that kind is an expression by itself.
+fn is_leaf(kind: Kind) -> bool
+    ensures { result ≡ is_leaf (beginning (token_of kind)) }
+{
+    match kind {
         Kind::Identifier | Kind::Int | Kind::Float => true,
         Kind::String | Kind::Bytes | Kind::Ellipsis => true,
         _ => false,
@@ -105,9 +114,9 @@ fn list<B: Make>(tokens: &mut Tokens, opening: Pos) -> Result<B::Expr, Error>
     ensures shorter { OnOk result (length tokens.new.items < length tokens.old.items) }
 {
     let alloc = tokens.alloc();
-    let mut one = Vec::new(alloc);
     if tokens.accept(Kind::ClosingSquare)? {
-        return Ok(B::list(one, tokens.since(opening)));
+        let none = Vec::new(alloc);
+        return Ok(B::list(none, tokens.since(opening)));
     }
     let begin = tokens.begin();
     let first = expression::<B>(tokens, TEST)?;
@@ -121,8 +130,8 @@ fn list<B: Make>(tokens: &mut Tokens, opening: Pos) -> Result<B::Expr, Error>
         return Ok(B::list(members, tokens.since(opening)));
     }
     tokens.expect(Kind::ClosingSquare)?;
-    one.push(first)?;
-    Ok(B::list(one, tokens.since(opening)))
+    let only = single(alloc, first)?;
+    Ok(B::list(only, tokens.since(opening)))
 }
 
 /// A dict or a comprehension of one, behind `{`.
@@ -132,9 +141,9 @@ fn dict<B: Make>(tokens: &mut Tokens, opening: Pos) -> Result<B::Expr, Error>
     ensures shorter { OnOk result (length tokens.new.items < length tokens.old.items) }
 {
     let alloc = tokens.alloc();
-    let mut one = Vec::new(alloc);
     if tokens.accept(Kind::ClosingCurly)? {
-        return Ok(B::dict(one, tokens.since(opening)));
+        let none = Vec::new(alloc);
+        return Ok(B::dict(none, tokens.since(opening)));
     }
     let first = pair::<B>(tokens)?;
     if tokens.accept(Kind::For)? {
@@ -147,6 +156,6 @@ fn dict<B: Make>(tokens: &mut Tokens, opening: Pos) -> Result<B::Expr, Error>
         return Ok(B::dict(members, tokens.since(opening)));
     }
     tokens.expect(Kind::ClosingCurly)?;
-    one.push(first)?;
-    Ok(B::dict(one, tokens.since(opening)))
+    let only = single(alloc, first)?;
+    Ok(B::dict(only, tokens.since(opening)))
 }

@@ -18,6 +18,7 @@ use crate::error::Error;
 use crate::expression::expression;
 use crate::kind::Kind;
 use crate::level::TEST;
+use crate::lists::{push, single};
 use crate::tokens::Tokens;
 use starlark_grammar::make::Make;
 use starlark_place::pos::{Pos, Span};
@@ -35,15 +36,14 @@ pub(crate) fn members_behind<B: Make>(
     ensures reads { (d : Dialect) (p : Bracket) (b : ℕ) (k : Frames) → kind_in p ≡ tests → token_of closing ≡ closing_bracket p → Comes d (stands (member_wanted (brackets p b) (tree.more tree.none (tree.item (B.means first))) true tokens.old.last begin) k) (λ x. has (gathered p (items_of B.means x.0.items) (stretch b tokens.new.last) x.1) tokens.new.last k) tokens.old result tokens.new }
     ensures shorter { OnOk result (length tokens.new.items < length tokens.old.items) }
 {
-    let mut members = Vec::new(tokens.alloc());
-    members.push(first)?;
+    let mut members = single(tokens.alloc(), first)?;
     loop {
         let span = tokens.since(begin);
         if tokens.accept(closing)? {
             return Ok((members, span));
         }
         let next = expression::<B>(tokens, TEST)?;
-        members.push(next)?;
+        push(&mut members, next)?;
         let span = tokens.since(begin);
         if !tokens.accept(Kind::Comma)? {
             tokens.expect(closing)?;
@@ -73,14 +73,13 @@ pub(crate) fn pairs_behind<B: Make>(
     ensures reads { (d : Dialect) (b f : ℕ) (k : Frames) → Comes d (stands (member_wanted (brackets curly b) (tree.more tree.none (tree.pair (B.means first.0) (B.means first.1))) true tokens.old.last f) k) (λ x. has (tree.dict (pairs_of B.means x.items) (stretch b tokens.new.last)) tokens.new.last k) tokens.old result tokens.new }
     ensures shorter { OnOk result (length tokens.new.items < length tokens.old.items) }
 {
-    let mut members = Vec::new(tokens.alloc());
-    members.push(first)?;
+    let mut members = single(tokens.alloc(), first)?;
     loop {
         if tokens.accept(Kind::ClosingCurly)? {
             return Ok(members);
         }
         let next = pair::<B>(tokens)?;
-        members.push(next)?;
+        push(&mut members, next)?;
         if !tokens.accept(Kind::Comma)? {
             tokens.expect(Kind::ClosingCurly)?;
             return Ok(members);

@@ -16,6 +16,7 @@ use crate::expression::expression;
 use crate::kind::Kind;
 use crate::level::{BIT_OR, OR};
 use crate::listed::listed;
+use crate::lists::push;
 use crate::tokens::Tokens;
 use starlark_grammar::make::Make;
 
@@ -35,10 +36,10 @@ pub(crate) fn clauses<B: Make>(
     loop {
         if tokens.accept(Kind::For)? {
             let next = for_clause::<B>(tokens)?;
-            rest.push(next)?;
+            push(&mut rest, next)?;
         } else if tokens.accept(Kind::If)? {
             let condition = expression::<B>(tokens, OR)?;
-            rest.push(B::if_clause(condition))?;
+            push(&mut rest, B::if_clause(condition))?;
         } else {
             tokens.expect(closing)?;
             return Ok((first, rest));

@@ -15,9 +15,9 @@ use crate::error::Error;
 use crate::expression::expression;
 use crate::kind::Kind;
 use crate::level::TEST;
+use crate::lists::push;
 use crate::tokens::Tokens;
 use starlark_grammar::make::Make;
-use starlark_lexer::token::Token;
 use starlark_place::pos::{Pos, Spanned};
 use starlark_rulebook::rule::Rule;
 use std::alloc::AllocError;
@@ -30,13 +30,8 @@ pub(crate) fn opens_f_string(tokens: &mut Tokens) -> Result<bool, AllocError>
     if tokens.kind() != Kind::FStringStart {
         return Ok(false);
     }
-    let Some((token, _)) = tokens.next()? else {
-        unreachable!();
-    };
-    match token {
-        Token::FStringStart(_) => Ok(true),
-        _ => unreachable!(),
-    }
+    tokens.skip()?;
+    Ok(true)
 }
 
 /// An f-string behind its beginning.
@@ -54,7 +49,7 @@ pub(crate) fn f_string<B: Make>(tokens: &mut Tokens, begin: Pos) -> Result<B::Ex
         if !text(tokens, &mut format)? {
             tokens.expect(Kind::FStringExprStart)?;
             let next = field::<B>(tokens, &mut format)?;
-            fields.push(next)?;
+            push(&mut fields, next)?;
         }
     }
 }
@@ -64,16 +59,10 @@ fn text(tokens: &mut Tokens, format: &mut String) -> Result<bool, AllocError>
     ensures reads { IfOk result (λ found. MatchBool found ((d : Dialect) (b : ℕ) (ms : tree.Members) (k : Frames) → Goes d (stands (piece_wanted b (string_bytes format.old) ms) k) tokens.old (stands (piece_wanted b (string_bytes format.new) ms) k) tokens.new) ((tokens.new ≡ tokens.old) × (format.new ≡ format.old) × (text_ahead tokens.old.items ≡ None))) }
     ensures shorter { IfOk result (λ found. found ≡ true → length tokens.new.items < length tokens.old.items) }
 {
-    if tokens.kind() != Kind::FStringText {
+    let Some(found) = tokens.f_string_text()? else {
         return Ok(false);
-    }
-    let Some((token, _)) = tokens.next()? else {
-        unreachable!();
     };
-    match token {
-        Token::FStringText(text) => push_doubled(format, text)?,
-        _ => unreachable!(),
-    }
+    push_doubled(format, found.node)?;
     Ok(true)
 }
 

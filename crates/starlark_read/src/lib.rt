@@ -19,6 +19,7 @@ mod kind;
 pub mod laws;
 mod level;
 mod listed;
+mod lists;
 mod load;
 mod names;
 mod operators;

@@ -12,6 +12,7 @@ ghost use Rattle.starlark_read.specs.Reads.{Comes, Unbracketed, first_lexeme, ki
 use crate::error::Error;
 use crate::expression::expression;
 use crate::kind::Kind;
+use crate::lists::{push, single};
 use crate::tokens::Tokens;
 use starlark_grammar::make::Make;
 use starlark_place::pos::{Pos, Spanned};
@@ -46,8 +47,7 @@ pub(crate) fn listed_behind<B: Make>(
     if !tokens.accept(Kind::Comma)? {
         return Ok(first);
     }
-    let mut members = Vec::new(tokens.alloc());
-    members.push(first)?;
+    let mut members = single(tokens.alloc(), first)?;
     loop {
         let span = tokens.since(begin);
         if !tokens.begins_test() {
@@ -55,7 +55,7 @@ pub(crate) fn listed_behind<B: Make>(
             return Err(tokens.stop(Spanned { span, node }));
         }
         let next = expression::<B>(tokens, level)?;
-        members.push(next)?;
+        push(&mut members, next)?;
         let span = tokens.since(begin);
         if !tokens.accept(Kind::Comma)? {
             return Ok(B::tuple(members, span));

@@ -13,6 +13,7 @@ ghost use Rattle.starlark_grammar.specs.Spans.{stretch};
 
 use crate::error::Error;
 use crate::kind::Kind;
+use crate::lists::push;
 use crate::names::name;
 use crate::tokens::Tokens;
 use starlark_ast::ast::{AssignIdentP, AstNoPayload, Comma, LoadArgP};
@@ -53,11 +54,11 @@ fn symbols(tokens: &mut Tokens) -> Result<Vec<LoadArgP<AstNoPayload>>, Error>
         let begin = tokens.begin();
         if !tokens.accept(Kind::Comma)? {
             tokens.expect(Kind::ClosingRound)?;
-            found.push(symbol(local, their, None))?;
+            push(&mut found, symbol(local, their, None))?;
             return Ok(found);
         }
         let comma = tokens.since(begin);
-        found.push(symbol(local, their, Some(comma)))?;
+        push(&mut found, symbol(local, their, Some(comma)))?;
     }
 }
 

@@ -14,6 +14,7 @@ use crate::error::Error;
 use crate::expression::expression;
 use crate::kind::Kind;
 use crate::level::TEST;
+use crate::lists::{push, single};
 use crate::names::name;
 use crate::tokens::Tokens;
 use starlark_grammar::make::Make;
@@ -25,12 +26,12 @@ pub(crate) fn lambda_parameters<B: Make>(tokens: &mut Tokens) -> Result<Vec<B::P
     ensures reads { (d : Dialect) (b : ℕ) (k : Frames) → Comes d (stands (member_wanted (before_body b) tree.none false 0 0) k) (λ ps. wants 12 (inside (body (members B.parameter_means ps.items) b) k)) tokens.old result tokens.new }
     ensures shorter { OnOk result (length tokens.new.items < length tokens.old.items) }
 {
-    let mut found = Vec::new(tokens.alloc());
     if tokens.accept(Kind::Colon)? {
-        return Ok(found);
+        let none = Vec::new(tokens.alloc());
+        return Ok(none);
     }
     let first = parameter::<B>(tokens)?;
-    found.push(first)?;
+    let mut found = single(tokens.alloc(), first)?;
     loop {
         if !tokens.accept(Kind::Comma)? {
             tokens.expect(Kind::Colon)?;
@@ -40,7 +41,7 @@ pub(crate) fn lambda_parameters<B: Make>(tokens: &mut Tokens) -> Result<Vec<B::P
             return Ok(found);
         }
         let next = parameter::<B>(tokens)?;
-        found.push(next)?;
+        push(&mut found, next)?;
     }
 }
 

@@ -12,6 +12,7 @@ ghost use Rattle.starlark_read.specs.Reads.{Comes, first_lexeme};
 use crate::block::block;
 use crate::error::Error;
 use crate::kind::Kind;
+use crate::lists::{push, single};
 use crate::small::small;
 use crate::tokens::Tokens;
 use starlark_grammar::build::Build;
@@ -27,11 +28,10 @@ pub(crate) fn row<B: Build>(tokens: &mut Tokens, dialect: Dialect) -> Result<B::
     if row_ends(tokens)? {
         return Ok(first);
     }
-    let mut statements = Vec::new(tokens.alloc());
-    statements.push(first)?;
+    let mut statements = single(tokens.alloc(), first)?;
     loop {
         let next = small::<B>(tokens, dialect)?;
-        statements.push(next)?;
+        push(&mut statements, next)?;
         if row_ends(tokens)? {
             return Ok(block::<B>(statements, tokens.last()));
         }

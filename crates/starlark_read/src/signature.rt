@@ -16,6 +16,7 @@ use crate::error::Error;
 use crate::expression::expression;
 use crate::kind::Kind;
 use crate::level::TEST;
+use crate::lists::push;
 use crate::names::name;
 use crate::tokens::Tokens;
 use crate::types::type_expression;
@@ -36,7 +37,7 @@ pub(crate) fn def_parameters<B: Build>(
     let mut found = Vec::new(tokens.alloc());
     while !tokens.accept(Kind::ClosingRound)? {
         let next = parameter::<B>(tokens, dialect)?;
-        found.push(next)?;
+        push(&mut found, next)?;
         if !tokens.accept(Kind::Comma)? {
             tokens.expect(Kind::ClosingRound)?;
             return Ok(found);

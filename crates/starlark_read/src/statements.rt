@@ -10,6 +10,7 @@ ghost use Rattle.starlark_read.specs.Reads.{Comes};
 
 use crate::error::Error;
 use crate::kind::Kind;
+use crate::lists::push;
 use crate::statement::statement;
 use crate::tokens::Tokens;
 use starlark_grammar::build::Build;
@@ -50,7 +51,7 @@ pub(crate) fn statements<B: Build>(
             _ => {
                 let next = statement::<B>(tokens, dialect)?;
                 are_clean = still_clean::<B>(tokens.alloc(), dialect, are_clean, &next)?;
-                found.push(next)?;
+                push(&mut found, next)?;
             }
         }
     }

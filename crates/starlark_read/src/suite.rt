@@ -5,11 +5,12 @@ ghost use Rattle.starlark_ast.specs.Tree.{no_statements};
 ghost use Rattle.starlark_grammar.specs.Frames.{Suites, at_line, inner, wants_indent, wants_suite};
 ghost use Rattle.starlark_grammar.specs.Machine.{close};
 ghost use Rattle.starlark_read.specs.Reads.{Comes};
-ghost use Rattle.starlark_read.specs.Lines.{line_ahead};
+ghost use Rattle.starlark_read.specs.Lines.{line_ahead, line_of};
 
 use crate::block::block;
 use crate::error::Error;
 use crate::kind::Kind;
+use crate::lists::push;
 use crate::row::row;
 use crate::statement::statement;
 use crate::tokens::Tokens;
@@ -53,7 +54,7 @@ fn lines<B: Build>(tokens: &mut Tokens, dialect: Dialect) -> Result<B::Stmt, Err
         }
         if begins_line(tokens) {
             let next = statement::<B>(tokens, dialect)?;
-            statements.push(next)?;
+            push(&mut statements, next)?;
         } else if statements.is_empty() {
             return Err(Error::Unexpected);
         } else {
@@ -67,7 +68,14 @@ fn lines<B: Build>(tokens: &mut Tokens, dialect: Dialect) -> Result<B::Stmt, Err
 fn begins_line(tokens: &Tokens) -> bool
     ensures { result ≡ line_ahead tokens.now.items }
 {
-    match tokens.kind() {
+    is_line(tokens.kind())
+}
+
+/// Whether a token of that kind can begin a line.
+fn is_line(kind: Kind) -> bool
+    ensures { result ≡ line_of kind }
+{
+    match kind {
         Kind::Dedent | Kind::End => false,
         _ => true,
     }

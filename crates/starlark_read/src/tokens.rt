@@ -1,20 +1,21 @@
 //! The tokens of a text, with one token of look-ahead.
 
-ghost use Rattle.std.specs.Prelude.{◌≡◌, ◌≢◌, ◌≤◌, ◌+◌, ◌*◌, [], IfOk, MatchOption, Some, None, true, string_bytes, Err, max};
+ghost use Rattle.std.specs.Prelude.{◌≡◌, ◌≢◌, ◌≤◌, ◌+◌, ◌*◌, [], IfOk, MatchOption, Some, None, true, false, string_bytes, Err, max};
 ghost use Rattle.std.specs.Bool.{MatchBool};
 ghost use Rattle.starlark_place.specs.Place.{Extent};
-ghost use Rattle.starlark_lexer.specs.Items.{item, lexeme_of, identifier, string};
+ghost use Rattle.starlark_lexer.specs.Items.{item, lexeme_of, fstring_text, identifier, string};
 ghost use Rattle.starlark_rulebook.specs.Rules as broken;
 ghost use Rattle.starlark_rulebook.specs.View.{finding_of};
 ghost use Rattle.starlark_read.specs.Asides.{ahead_end, aside_of, counted};
 ghost use Rattle.starlark_grammar.specs.Events.{conversion_end};
 ghost use Rattle.starlark_read.specs.Counted.{kind_given};
-ghost use Rattle.starlark_read.specs.Gathered.{conversion_ahead};
-ghost use Rattle.starlark_read.specs.Kinds.{kind_ahead, is_plain, token_of};
+ghost use Rattle.starlark_read.specs.Gathered.{conversion_ahead, text_ahead};
+ghost use Rattle.starlark_read.specs.Kinds.{kind_ahead, kind_of, has_text, is_plain, token_of, with_text};
 ghost use Rattle.starlark_grammar.specs.Language.{by_rule, uncommented};
 ghost use Rattle.starlark_grammar.specs.Nodes.{start};
+ghost use Rattle.starlark_grammar.specs.Sorts.{is_some};
 ghost use Rattle.starlark_grammar.specs.Spans.{stretch};
-ghost use Rattle.starlark_grammar.specs.Tables.{grade_of, suffix};
+ghost use Rattle.starlark_grammar.specs.Tables.{beginning, grade_of, suffix};
 ghost use Rattle.starlark_grammar.specs.Verdicts.{begins_test};
 ghost use Rattle.starlark_read.specs.Refused.{fault_ahead, fault_of};
 ghost use Rattle.starlark_read.specs.Reads.{asks_left, left_of, stopped, with_ahead, first_lexeme, grade_ahead, name_ahead, string_ahead, Passes};
@@ -75,6 +76,31 @@ fn kind_given(ahead: &Lookahead) -> Kind
     match ahead {
         Lookahead::Token(_, token) => kind_of(token),
         _ => Kind::End,
+    }
+}
+
+/// Whether a token of that kind begins an expression.
+fn begins_test(kind: Kind) -> bool
+    ensures { result ≡ is_some (beginning (token_of kind)) }
+{
+    match kind {
+        Kind::Identifier | Kind::Int | Kind::Float | Kind::String | Kind::Bytes => true,
+        Kind::Ellipsis | Kind::FStringStart | Kind::Lambda | Kind::Not => true,
+        Kind::OpeningRound | Kind::OpeningSquare | Kind::OpeningCurly => true,
+        Kind::Plus | Kind::Minus | Kind::Tilde => true,
+        _ => false,
+    }
+}
+
+/// The text in a token of an identifier, a literal of text or the text of an f-string.
+fn text_in(token: Token) -> Option<String>
+    ensures { MatchOption result (has_text (kind_of (lexeme_of token)) ≡ false) (λ s. lexeme_of token ≡ with_text (kind_of (lexeme_of token)) (string_bytes s)) }
+{
+    match token {
+        Token::Identifier(text) => Some(text),
+        Token::String(text) => Some(text),
+        Token::FStringText(text) => Some(text),
+        _ => None,
     }
 }
 
@@ -217,13 +243,7 @@ impl Tokens {
     pub(crate) fn begins_test(&self) -> bool
         ensures { result ≡ begins_test self.now.items }
     {
-        match self.kind() {
-            Kind::Identifier | Kind::Int | Kind::Float | Kind::String | Kind::Bytes => true,
-            Kind::Ellipsis | Kind::FStringStart | Kind::Lambda | Kind::Not => true,
-            Kind::OpeningRound | Kind::OpeningSquare | Kind::OpeningCurly => true,
-            Kind::Plus | Kind::Minus | Kind::Tilde => true,
-            _ => false,
-        }
+        begins_test(self.kind())
     }
 
     /// The level of the suffix or the operator that stands ahead, or `NONE`.
@@ -331,31 +351,37 @@ impl Tokens {
     pub(crate) fn identifier(&mut self) -> Result<Option<Spanned<String>>, AllocError>
         ensures { IfOk result (λ o. MatchOption o ((self.new ≡ self.old) × (name_ahead self.old.items ≡ None)) (λ s. Passes self.old (item s.span.begin (identifier (string_bytes s.node)) s.span.end) self.new)) }
     {
-        if self.kind() != Kind::Identifier {
-            return Ok(None);
-        }
-        let Some((token, span)) = self.next()? else {
-            unreachable!();
-        };
-        match token {
-            Token::Identifier(node) => Ok(Some(Spanned { span, node })),
-            _ => unreachable!(),
-        }
+        self.text_of(Kind::Identifier)
     }
 
     /// Reads a literal of text, if one stands ahead.
     pub(crate) fn string(&mut self) -> Result<Option<Spanned<String>>, AllocError>
         ensures { IfOk result (λ o. MatchOption o ((self.new ≡ self.old) × (string_ahead self.old.items ≡ None)) (λ s. Passes self.old (item s.span.begin (string (string_bytes s.node)) s.span.end) self.new)) }
     {
-        if self.kind() != Kind::String {
+        self.text_of(Kind::String)
+    }
+
+    /// Reads the text between the fields of an f-string, if one stands ahead.
+    pub(crate) fn f_string_text(&mut self) -> Result<Option<Spanned<String>>, AllocError>
+        ensures { IfOk result (λ o. MatchOption o ((self.new ≡ self.old) × (text_ahead self.old.items ≡ None)) (λ s. Passes self.old (item s.span.begin (fstring_text (string_bytes s.node)) s.span.end) self.new)) }
+    {
+        self.text_of(Kind::FStringText)
+    }
+
+    /// Reads the next token if it is of that kind, one with a text.
+    fn text_of(&mut self, want: Kind) -> Result<Option<Spanned<String>>, AllocError>
+        requires { has_text want ≡ true }
+        ensures { IfOk result (λ o. MatchOption o ((self.new ≡ self.old) × (kind_ahead self.old.items ≢ want)) (λ s. Passes self.old (item s.span.begin (with_text want (string_bytes s.node)) s.span.end) self.new)) }
+    {
+        if self.kind() != want {
             return Ok(None);
         }
         let Some((token, span)) = self.next()? else {
             unreachable!();
         };
-        match token {
-            Token::String(node) => Ok(Some(Spanned { span, node })),
-            _ => unreachable!(),
-        }
+        let Some(node) = text_in(token) else {
+            unreachable!();
+        };
+        Ok(Some(Spanned { span, node }))
     }
 }

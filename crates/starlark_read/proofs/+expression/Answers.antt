@@ -1,4 +1,4 @@
-use Rattle.std.proofs.Common.{◌+◌, ◌-◌, ◌≡◌, ◌∙◌, suc, refl, ap, sym, rules, arith, length, inl, inr, cond, true, string_bytes, [], ◌∷◌, ◌++◌, Some, false, ap₂}
+use Rattle.std.proofs.Common.{◌+◌, ◌-◌, ◌≡◌, ◌∙◌, suc, refl, ap, sym, rules, arith, length, inl, inr, cond, true, string_bytes, Some, false, ap₂}
 use Rattle.starlark_lexer.specs.Items.{keyword_lambda, keyword_if, dot, opening_round, opening_square, comma, closing_round, star, star_star, equal, colon, closing_square, opening_curly, keyword_for, closing_curly, fstring_end, fstring_expr_end, slash}
 use Rattle.starlark_grammar.specs.Made.{sign_of, bound_of, goes_over, items_of, pairs_of, clauses_of}
 use Rattle.starlark_grammar.specs.Nodes.{start, operated, from}
@@ -514,7 +514,7 @@ atoms::parenthesized-returns-clause-reads g met c d k =
     gives (renamed n.0 >> item_begins round _ _ _ _ _ k _ refl (still n.0 n.1) >> (c.in_ok-first.ensures.reads d _).comes _ refl >> member_ends _ _ _ _ _ _ _ _ _ >> renamed m.0 >> closes_read round _ _ _ _ k _ _ _ refl c.in_ok-expect.ensures.read)
 
 pub atoms::list-returns-then-branch-clause-reads : goal.atoms::list-returns-then-branch-clause-reads
-atoms::list-returns-then-branch-clause-reads g met c d k = gives (seen_as (closes_wanted square _ _ _ _ _ k _ _ _ refl (read_it _ _ closing_square _ c.if-branch.true c.in_ok-accept.ensures)) (c.list.ensures ∙ ap₂ tree.list (ap (items_of g.B.Make.means) c.new-one.ensures.items) c.since.ensures))
+atoms::list-returns-then-branch-clause-reads g met c d k = gives (seen_as (closes_wanted square _ _ _ _ _ k _ _ _ refl (read_it _ _ closing_square _ c.if-branch.true c.in_ok-accept.ensures)) (c.list.ensures ∙ ap₂ tree.list (ap (items_of g.B.Make.means) c.new-none.ensures.items) c.since.ensures))
 
 pub atoms::list-returns-in_err-first-clause-reads : goal.atoms::list-returns-in_err-first-clause-reads
 atoms::list-returns-in_err-first-clause-reads g met c d k =
@@ -555,10 +555,10 @@ atoms::list-returns-clause-reads g met c d k =
     let n = left_it _ _ closing_square _ c.if-branch.false c.in_ok-accept.ensures in
     let m = left_it _ _ keyword_for _ c.if-branch-2.false c.in_ok-accept-2.ensures in
     let l = left_it _ _ comma _ c.if-branch-3.false c.in_ok-accept-3.ensures in
-    gives (seen_as (renamed n.0 >> item_begins square _ _ _ _ _ k _ refl (still n.0 n.1) >> (c.in_ok-first.ensures.reads d _).comes _ refl >> member_ends _ _ _ _ _ _ _ _ _ >> renamed m.0 >> renamed l.0 >> closes_read square _ _ _ _ k _ _ _ refl c.in_ok-expect.ensures.read) (c.list-2.ensures ∙ ap₂ tree.list (ap (items_of g.B.Make.means) (c.in_ok-push.ensures.items ∙ ap (λ z. z ++ c.in_ok-first.first ∷ []) c.new-one.ensures.items)) c.since-2.ensures))
+    gives (seen_as (renamed n.0 >> item_begins square _ _ _ _ _ k _ refl (still n.0 n.1) >> (c.in_ok-first.ensures.reads d _).comes _ refl >> member_ends _ _ _ _ _ _ _ _ _ >> renamed m.0 >> renamed l.0 >> closes_read square _ _ _ _ k _ _ _ refl c.in_ok-expect.ensures.read) (c.list-2.ensures ∙ ap₂ tree.list (ap (items_of g.B.Make.means) c.in_ok-only.ensures) c.since-2.ensures))
 
 pub atoms::dict-returns-then-branch-clause-reads : goal.atoms::dict-returns-then-branch-clause-reads
-atoms::dict-returns-then-branch-clause-reads g met c d k = gives (seen_as (closes_wanted curly _ _ _ _ _ k _ _ _ refl (read_it _ _ closing_curly _ c.if-branch.true c.in_ok-accept.ensures)) (c.dict.ensures ∙ ap₂ tree.dict (ap (pairs_of g.B.Make.means) c.new-one.ensures.items) c.since.ensures))
+atoms::dict-returns-then-branch-clause-reads g met c d k = gives (seen_as (closes_wanted curly _ _ _ _ _ k _ _ _ refl (read_it _ _ closing_curly _ c.if-branch.true c.in_ok-accept.ensures)) (c.dict.ensures ∙ ap₂ tree.dict (ap (pairs_of g.B.Make.means) c.new-none.ensures.items) c.since.ensures))
 
 pub atoms::dict-returns-in_err-first-clause-reads : goal.atoms::dict-returns-in_err-first-clause-reads
 atoms::dict-returns-in_err-first-clause-reads g met c d k =
@@ -599,11 +599,11 @@ atoms::dict-returns-clause-reads g met c d k =
     let n = left_it _ _ closing_curly _ c.if-branch.false c.in_ok-accept.ensures in
     let m = left_it _ _ keyword_for _ c.if-branch-2.false c.in_ok-accept-2.ensures in
     let l = left_it _ _ comma _ c.if-branch-3.false c.in_ok-accept-3.ensures in
-    gives (seen_as (renamed n.0 >> (c.in_ok-first.ensures.reads d _ _ _ _ _ k (still n.0 n.1)).comes _ refl >> renamed m.0 >> renamed l.0 >> closes_read curly _ _ _ _ k _ _ _ refl c.in_ok-expect.ensures.read) (c.dict-2.ensures ∙ ap₂ tree.dict (ap (pairs_of g.B.Make.means) (c.in_ok-push.ensures.items ∙ ap (λ z. z ++ c.in_ok-first.first ∷ []) c.new-one.ensures.items)) c.since-2.ensures))
+    gives (seen_as (renamed n.0 >> (c.in_ok-first.ensures.reads d _ _ _ _ _ k (still n.0 n.1)).comes _ refl >> renamed m.0 >> renamed l.0 >> closes_read curly _ _ _ _ k _ _ _ refl c.in_ok-expect.ensures.read) (c.dict-2.ensures ∙ ap₂ tree.dict (ap (pairs_of g.B.Make.means) c.in_ok-only.ensures) c.since-2.ensures))
 
 pub brackets::members_behind-loop-members-init : goal.brackets::members_behind-loop-members-init
 brackets::members_behind-loop-members-init g met c =
-    let one : items_of g.B.Make.means c.push.new.self.items ≡ tree.more tree.none (tree.item (g.B.Make.means c.args.first)) = ap (items_of g.B.Make.means) (c.in_ok-push.ensures.items ∙ ap (λ z. z ++ c.args.first ∷ []) c.new-members.ensures.items) in
+    let one : items_of g.B.Make.means c.in_ok-members.members.items ≡ tree.more tree.none (tree.item (g.B.Make.means c.args.first)) = ap (items_of g.B.Make.means) c.in_ok-members.ensures in
     record {
       reads = λ d p b k h q. wanted_as _ begins one;
       filled = λ e. absurd (let w : tree.more tree.none (tree.item (g.B.Make.means c.args.first)) ≡ tree.none = sym one ∙ e in (cc));
@@ -628,14 +628,14 @@ pub brackets::members_behind-returns-then-not-branch-clause-reads : goal.bracket
 brackets::members_behind-returns-then-not-branch-clause-reads g met c d p b k h q =
     let n = left_it _ _ _ _ c.if-branch.false c.in_ok-accept.ensures in
     let m = left_it _ _ comma _ c.if-not-branch.true c.in_ok-accept-2.ensures in
-    let one : items_of g.B.Make.means c.push-in-loop-members.new.self.items ≡ tree.more (items_of g.B.Make.means c.loop-members.members.items) (tree.item (g.B.Make.means c.in_ok-next.next)) = ap (items_of g.B.Make.means) c.in_ok-push-2.ensures.items ∙ one_more (λ x. tree.item (g.B.Make.means x)) c.loop-members.members.items c.in_ok-next.next in
+    let one : items_of g.B.Make.means c.push.new.list.items ≡ tree.more (items_of g.B.Make.means c.loop-members.members.items) (tree.item (g.B.Make.means c.in_ok-next.next)) = ap (items_of g.B.Make.means) c.in_ok-push.ensures.items ∙ one_more (λ x. tree.item (g.B.Make.means x)) c.loop-members.members.items c.in_ok-next.next in
     gives (seen_as (read_as _ _ (c.loop-members.invariant.reads d p b k h q >> renamed n.0 >> item_begins p b _ _ _ _ k _ h (λ e. still n.0 n.1 (e ∙ ap Some (sym q))) >> (c.in_ok-next.ensures.reads d _).comes _ refl >> member_ends _ _ _ _ _ _ _ _ _) one (sym (first_kept _ _ _ c.loop-members.invariant.filled)) >> renamed m.0 >> closes_read p b _ _ _ k _ _ _ q c.in_ok-expect.ensures.read) (ap (gathered p _ _) c.since-span-in-loop-members.ensures ∙ sym (gathers_read_as p _ _ _ _ _ one c.loop-members.invariant.filled)))
 
 pub brackets::members_behind-loop-members-preserved : goal.brackets::members_behind-loop-members-preserved
 brackets::members_behind-loop-members-preserved g met c =
     let n = left_it _ _ _ _ c.if-branch.false c.in_ok-accept.ensures in
     let m = read_it _ _ comma _ c.if-not-branch.false c.in_ok-accept-2.ensures in
-    let one : items_of g.B.Make.means c.push-in-loop-members.new.self.items ≡ tree.more (items_of g.B.Make.means c.loop-members.members.items) (tree.item (g.B.Make.means c.in_ok-next.next)) = ap (items_of g.B.Make.means) c.in_ok-push-2.ensures.items ∙ one_more (λ x. tree.item (g.B.Make.means x)) c.loop-members.members.items c.in_ok-next.next in
+    let one : items_of g.B.Make.means c.push.new.list.items ≡ tree.more (items_of g.B.Make.means c.loop-members.members.items) (tree.item (g.B.Make.means c.in_ok-next.next)) = ap (items_of g.B.Make.means) c.in_ok-push.ensures.items ∙ one_more (λ x. tree.item (g.B.Make.means x)) c.loop-members.members.items c.in_ok-next.next in
     record {
       reads = λ d p b k h q. read_as _ _ (c.loop-members.invariant.reads d p b k h q >> renamed n.0 >> item_begins p b _ _ _ _ k _ h (λ e. still n.0 n.1 (e ∙ ap Some (sym q))) >> (c.in_ok-next.ensures.reads d _).comes _ refl >> member_ends _ _ _ _ _ _ _ _ _) one (sym (first_kept _ _ _ c.loop-members.invariant.filled)) >> goes m refl refl;
       filled = λ e. absurd (let w : tree.more (items_of g.B.Make.means c.loop-members.members.items) (tree.item (g.B.Make.means c.in_ok-next.next)) ≡ tree.none = sym one ∙ e in (cc));
@@ -656,7 +656,7 @@ brackets::pair-returns-clause-reads g met c d b ms t e f k n = gives (key_begins
 
 pub brackets::pairs_behind-loop-members-init : goal.brackets::pairs_behind-loop-members-init
 brackets::pairs_behind-loop-members-init g met c =
-    let one : pairs_of g.B.Make.means c.push.new.self.items ≡ tree.more tree.none (tree.pair (g.B.Make.means c.args.first.0) (g.B.Make.means c.args.first.1)) = ap (pairs_of g.B.Make.means) (c.in_ok-push.ensures.items ∙ ap (λ z. z ++ c.args.first ∷ []) c.new-members.ensures.items) in
+    let one : pairs_of g.B.Make.means c.in_ok-members.members.items ≡ tree.more tree.none (tree.pair (g.B.Make.means c.args.first.0) (g.B.Make.means c.args.first.1)) = ap (pairs_of g.B.Make.means) c.in_ok-members.ensures in
     record {
       reads = λ d b f k. wanted_as _ begins one;
       filled = λ e. absurd (let w : tree.more tree.none (tree.pair (g.B.Make.means c.args.first.0) (g.B.Make.means c.args.first.1)) ≡ tree.none = sym one ∙ e in (cc));
@@ -681,14 +681,14 @@ pub brackets::pairs_behind-returns-then-not-branch-clause-reads : goal.brackets:
 brackets::pairs_behind-returns-then-not-branch-clause-reads g met c d b f k =
     let n = left_it _ _ closing_curly _ c.if-branch.false c.in_ok-accept.ensures in
     let m = left_it _ _ comma _ c.if-not-branch.true c.in_ok-accept-2.ensures in
-    let one : pairs_of g.B.Make.means c.push-in-loop-members.new.self.items ≡ tree.more (pairs_of g.B.Make.means c.loop-members.members.items) (tree.pair (g.B.Make.means c.in_ok-next.next.0) (g.B.Make.means c.in_ok-next.next.1)) = ap (pairs_of g.B.Make.means) c.in_ok-push-2.ensures.items ∙ one_more (λ x. tree.pair (g.B.Make.means x.0) (g.B.Make.means x.1)) c.loop-members.members.items c.in_ok-next.next in
+    let one : pairs_of g.B.Make.means c.push.new.list.items ≡ tree.more (pairs_of g.B.Make.means c.loop-members.members.items) (tree.pair (g.B.Make.means c.in_ok-next.next.0) (g.B.Make.means c.in_ok-next.next.1)) = ap (pairs_of g.B.Make.means) c.in_ok-push.ensures.items ∙ one_more (λ x. tree.pair (g.B.Make.means x.0) (g.B.Make.means x.1)) c.loop-members.members.items c.in_ok-next.next in
     gives (read_as _ _ (c.loop-members.invariant.reads d b f k >> renamed n.0 >> (c.in_ok-next.ensures.reads d _ _ _ _ _ k (still n.0 n.1)).comes _ refl) one (sym (first_kept _ _ _ c.loop-members.invariant.filled)) >> renamed m.0 >> closes_read curly b _ _ _ k _ _ _ refl c.in_ok-expect.ensures.read)
 
 pub brackets::pairs_behind-loop-members-preserved : goal.brackets::pairs_behind-loop-members-preserved
 brackets::pairs_behind-loop-members-preserved g met c =
     let n = left_it _ _ closing_curly _ c.if-branch.false c.in_ok-accept.ensures in
     let m = read_it _ _ comma _ c.if-not-branch.false c.in_ok-accept-2.ensures in
-    let one : pairs_of g.B.Make.means c.push-in-loop-members.new.self.items ≡ tree.more (pairs_of g.B.Make.means c.loop-members.members.items) (tree.pair (g.B.Make.means c.in_ok-next.next.0) (g.B.Make.means c.in_ok-next.next.1)) = ap (pairs_of g.B.Make.means) c.in_ok-push-2.ensures.items ∙ one_more (λ x. tree.pair (g.B.Make.means x.0) (g.B.Make.means x.1)) c.loop-members.members.items c.in_ok-next.next in
+    let one : pairs_of g.B.Make.means c.push.new.list.items ≡ tree.more (pairs_of g.B.Make.means c.loop-members.members.items) (tree.pair (g.B.Make.means c.in_ok-next.next.0) (g.B.Make.means c.in_ok-next.next.1)) = ap (pairs_of g.B.Make.means) c.in_ok-push.ensures.items ∙ one_more (λ x. tree.pair (g.B.Make.means x.0) (g.B.Make.means x.1)) c.loop-members.members.items c.in_ok-next.next in
     record {
       reads = λ d b f k. read_as _ _ (c.loop-members.invariant.reads d b f k >> renamed n.0 >> (c.in_ok-next.ensures.reads d _ _ _ _ _ k (still n.0 n.1)).comes _ refl) one (sym (first_kept _ _ _ c.loop-members.invariant.filled)) >> goes m refl refl;
       filled = λ e. absurd (let w : tree.more (pairs_of g.B.Make.means c.loop-members.members.items) (tree.pair (g.B.Make.means c.in_ok-next.next.0) (g.B.Make.means c.in_ok-next.next.1)) ≡ tree.none = sym one ∙ e in (cc));
@@ -727,7 +727,7 @@ comprehension::clauses-returns-else-branch-2-clause-reads g met c d p b m k q =
 pub comprehension::clauses-loop-rest-preserved-in-Continue-branch-4 : goal.comprehension::clauses-loop-rest-preserved-in-Continue-branch-4
 comprehension::clauses-loop-rest-preserved-in-Continue-branch-4 g met c =
     let p = read_it _ _ keyword_for _ c.if-branch.true c.in_ok-accept.ensures in
-    let one : clauses_of (g.B.Make.clause_means c.in_ok-first.first) g.B.Make.clause_means c.push.new.self.items ≡ tree.and_clause (clauses_of (g.B.Make.clause_means c.in_ok-first.first) g.B.Make.clause_means c.loop-rest.rest.items) (g.B.Make.clause_means c.in_ok-next.next) = ap (clauses_of (g.B.Make.clause_means c.in_ok-first.first) g.B.Make.clause_means) c.in_ok-push.ensures.items ∙ clause_more (g.B.Make.clause_means c.in_ok-first.first) g.B.Make.clause_means c.loop-rest.rest.items c.in_ok-next.next in
+    let one : clauses_of (g.B.Make.clause_means c.in_ok-first.first) g.B.Make.clause_means c.push.new.list.items ≡ tree.and_clause (clauses_of (g.B.Make.clause_means c.in_ok-first.first) g.B.Make.clause_means c.loop-rest.rest.items) (g.B.Make.clause_means c.in_ok-next.next) = ap (clauses_of (g.B.Make.clause_means c.in_ok-first.first) g.B.Make.clause_means) c.in_ok-push.ensures.items ∙ clause_more (g.B.Make.clause_means c.in_ok-first.first) g.B.Make.clause_means c.loop-rest.rest.items c.in_ok-next.next in
     record {
       reads = λ d p' b m k. clauses_as _ (c.loop-rest.invariant.reads d p' b m k >> goes p refl refl >> (c.in_ok-next.ensures.reads d p' b m _ k).comes _ refl) one;
       shorter = omega (arith, c.loop-rest.invariant.shorter, ap length p.items, c.in_ok-next.ensures.shorter);
@@ -737,7 +737,7 @@ pub comprehension::clauses-loop-rest-preserved : goal.comprehension::clauses-loo
 comprehension::clauses-loop-rest-preserved g met c =
     let a = left_it _ _ keyword_for _ c.if-branch.false c.in_ok-accept.ensures in
     let p = read_it _ _ keyword_if _ c.if-branch-2.true c.in_ok-accept-2.ensures in
-    let one : clauses_of (g.B.Make.clause_means c.in_ok-first.first) g.B.Make.clause_means c.push-then-branch-2.new.self.items ≡ tree.and_clause (clauses_of (g.B.Make.clause_means c.in_ok-first.first) g.B.Make.clause_means c.loop-rest.rest.items) (tree.if_clause (g.B.Make.means c.in_ok-condition.condition)) = ap (clauses_of (g.B.Make.clause_means c.in_ok-first.first) g.B.Make.clause_means) c.in_ok-push-2.ensures.items ∙ clause_more (g.B.Make.clause_means c.in_ok-first.first) g.B.Make.clause_means c.loop-rest.rest.items c.if_clause.result ∙ ap (tree.and_clause (clauses_of (g.B.Make.clause_means c.in_ok-first.first) g.B.Make.clause_means c.loop-rest.rest.items)) c.if_clause.ensures in
+    let one : clauses_of (g.B.Make.clause_means c.in_ok-first.first) g.B.Make.clause_means c.push-then-branch-2.new.list.items ≡ tree.and_clause (clauses_of (g.B.Make.clause_means c.in_ok-first.first) g.B.Make.clause_means c.loop-rest.rest.items) (tree.if_clause (g.B.Make.means c.in_ok-condition.condition)) = ap (clauses_of (g.B.Make.clause_means c.in_ok-first.first) g.B.Make.clause_means) c.in_ok-push-2.ensures.items ∙ clause_more (g.B.Make.clause_means c.in_ok-first.first) g.B.Make.clause_means c.loop-rest.rest.items c.if_clause.result ∙ ap (tree.and_clause (clauses_of (g.B.Make.clause_means c.in_ok-first.first) g.B.Make.clause_means c.loop-rest.rest.items)) c.if_clause.ensures in
     record {
       reads = λ d p' b m k. clauses_as _ (c.loop-rest.invariant.reads d p' b m k >> renamed a.0 >> goes p refl refl >> (c.in_ok-condition.ensures.reads d _).comes _ refl >> filter_ends _ _ _ _ _ _ _ _) one;
       shorter = omega (arith, c.loop-rest.invariant.shorter, ap (λ z. length z.items) a.0, ap length p.items, c.in_ok-condition.ensures.shorter);
@@ -773,7 +773,7 @@ listed::listed_behind-expression-requires g met c = λ κs x. (omega (arith, c.l
 pub listed::listed_behind-loop-begin-init : goal.listed::listed_behind-loop-begin-init
 listed::listed_behind-loop-begin-init g met c =
     let p = read_it _ _ comma _ c.if-not-branch.false c.in_ok-accept.ensures in
-    let one : items_of g.B.Make.means c.push.new.self.items ≡ tree.more tree.none (tree.item (g.B.Make.means c.args.first)) = ap (items_of g.B.Make.means) (c.in_ok-push.ensures.items ∙ ap (λ z. z ++ c.args.first ∷ []) c.new-members.ensures.items) in
+    let one : items_of g.B.Make.means c.in_ok-members.members.items ≡ tree.more tree.none (tree.item (g.B.Make.means c.args.first)) = ap (items_of g.B.Make.means) c.in_ok-members.ensures in
     record {
       reads = λ d k h. list_comma_as k tree.none _ _ _ _ _ _ one p;
       filled = λ e. absurd (let w : tree.more tree.none (tree.item (g.B.Make.means c.args.first)) ≡ tree.none = sym one ∙ e in (cc));
@@ -789,13 +789,13 @@ listed::listed_behind-returns-in_err-next-clause-reads g met c d k h = exits (se
 pub listed::listed_behind-returns-then-not-branch-2-clause-reads : goal.listed::listed_behind-returns-then-not-branch-2-clause-reads
 listed::listed_behind-returns-then-not-branch-2-clause-reads g met c d k h =
     let n = left_it _ _ comma _ c.if-not-branch-2.true c.in_ok-accept-2.ensures in
-    let one : items_of g.B.Make.means c.push-in-loop-begin.new.self.items ≡ tree.more (items_of g.B.Make.means c.loop-begin.members.items) (tree.item (g.B.Make.means c.in_ok-next.next)) = ap (items_of g.B.Make.means) c.in_ok-push-2.ensures.items ∙ one_more (λ x. tree.item (g.B.Make.means x)) c.loop-begin.members.items c.in_ok-next.next in
+    let one : items_of g.B.Make.means c.push.new.list.items ≡ tree.more (items_of g.B.Make.means c.loop-begin.members.items) (tree.item (g.B.Make.means c.in_ok-next.next)) = ap (items_of g.B.Make.means) c.in_ok-push.ensures.items ∙ one_more (λ x. tree.item (g.B.Make.means x)) c.loop-begin.members.items c.in_ok-next.next in
     gives (c.loop-begin.invariant.reads d k h >> list_goes_on_with k _ _ _ _ _ c.loop-begin.invariant.filled h (sym c.if-not-begins_test.ensures) >> (c.in_ok-next.ensures.reads d _).comes _ refl >> list_forgets k _ _ _ _ _ _ >> list_is k _ _ _ _ c.loop-begin.invariant.filled n (c.tuple.ensures ∙ ap₂ tree.tuple one c.since-span-in-loop-begin.ensures))
 
 pub listed::listed_behind-loop-begin-preserved : goal.listed::listed_behind-loop-begin-preserved
 listed::listed_behind-loop-begin-preserved g met c =
     let p = read_it _ _ comma _ c.if-not-branch-2.false c.in_ok-accept-2.ensures in
-    let one : items_of g.B.Make.means c.push-in-loop-begin.new.self.items ≡ tree.more (items_of g.B.Make.means c.loop-begin.members.items) (tree.item (g.B.Make.means c.in_ok-next.next)) = ap (items_of g.B.Make.means) c.in_ok-push-2.ensures.items ∙ one_more (λ x. tree.item (g.B.Make.means x)) c.loop-begin.members.items c.in_ok-next.next in
+    let one : items_of g.B.Make.means c.push.new.list.items ≡ tree.more (items_of g.B.Make.means c.loop-begin.members.items) (tree.item (g.B.Make.means c.in_ok-next.next)) = ap (items_of g.B.Make.means) c.in_ok-push.ensures.items ∙ one_more (λ x. tree.item (g.B.Make.means x)) c.loop-begin.members.items c.in_ok-next.next in
     record {
       reads = λ d k h. c.loop-begin.invariant.reads d k h >> list_goes_on_with k _ _ _ _ _ c.loop-begin.invariant.filled h (sym c.if-not-begins_test.ensures) >> (c.in_ok-next.ensures.reads d _).comes _ refl >> list_forgets k _ _ _ _ _ _ >> list_comma_as k _ _ _ _ _ _ _ one p;
       filled = λ e. absurd (let w : tree.more (items_of g.B.Make.means c.loop-begin.members.items) (tree.item (g.B.Make.means c.in_ok-next.next)) ≡ tree.none = sym one ∙ e in (cc));
@@ -821,7 +821,7 @@ pub f_string::f_string-loop-fields-preserved-in_ok-push : goal.f_string::f_strin
 f_string::f_string-loop-fields-preserved-in_ok-push g met c =
     let a = left_it _ _ fstring_end _ c.if-branch.false c.in_ok-accept.ensures in
     let t = found_false _ _ _ c.if-not-branch.true c.in_ok-text.ensures.reads in
-    let one : items_of g.B.Make.means c.push.new.self.items ≡ tree.more (items_of g.B.Make.means c.loop-fields.fields.items) (tree.item (g.B.Make.means c.in_ok-next.next)) = ap (items_of g.B.Make.means) c.in_ok-push.ensures.items ∙ one_more (λ x. tree.item (g.B.Make.means x)) c.loop-fields.fields.items c.in_ok-next.next in
+    let one : items_of g.B.Make.means c.push.new.list.items ≡ tree.more (items_of g.B.Make.means c.loop-fields.fields.items) (tree.item (g.B.Make.means c.in_ok-next.next)) = ap (items_of g.B.Make.means) c.in_ok-push.ensures.items ∙ one_more (λ x. tree.item (g.B.Make.means x)) c.loop-fields.fields.items c.in_ok-next.next in
     record {
       reads = λ d k. pieces_as _ (field_from _ (c.loop-fields.invariant.reads d k >> renamed a.0 >> renamed t.0 >> field_begins _ _ _ k _ _ c.in_ok-expect.ensures.read) (ap string_bytes t.1) >> (c.in_ok-next.ensures.reads d _ _ k).comes _ refl) one;
       shorter = omega (arith, c.loop-fields.invariant.shorter, ap (λ z. length z.items) a.0, ap (λ z. length z.items) t.0, ap length c.in_ok-expect.ensures.read.items, c.in_ok-next.ensures.shorter);
@@ -857,7 +857,7 @@ f_string::field-returns-clause-reads g met c d b ms k =
     gives (letter_from _ ((c.in_ok-found.ensures.reads d _).comes _ refl >> renamed m.0 >> bang_read _ _ _ _ _ k _ _ c.in_ok-expect.ensures.read) c.begin-begin.ensures >> (c.in_ok-conversion.ensures.reads d b ms _ k).comes _ refl)
 
 pub parameters::lambda_parameters-returns-then-branch-clause-reads : goal.parameters::lambda_parameters-returns-then-branch-clause-reads
-parameters::lambda_parameters-returns-then-branch-clause-reads g met c d b k = gives (body_as _ (goes (read_it _ _ colon _ c.if-branch.true c.in_ok-accept.ensures) refl refl) (ap (members g.B.Make.parameter_means) c.new-found.ensures.items))
+parameters::lambda_parameters-returns-then-branch-clause-reads g met c d b k = gives (body_as _ (goes (read_it _ _ colon _ c.if-branch.true c.in_ok-accept.ensures) refl refl) (ap (members g.B.Make.parameter_means) c.new-none.ensures.items))
 
 pub parameters::lambda_parameters-returns-in_err-first-clause-reads : goal.parameters::lambda_parameters-returns-in_err-first-clause-reads
 parameters::lambda_parameters-returns-in_err-first-clause-reads g met c d b k =
@@ -867,7 +867,7 @@ parameters::lambda_parameters-returns-in_err-first-clause-reads g met c d b k =
 pub parameters::lambda_parameters-loop-found-init : goal.parameters::lambda_parameters-loop-found-init
 parameters::lambda_parameters-loop-found-init g met c =
     let n = left_it _ _ colon _ c.if-branch.false c.in_ok-accept.ensures in
-    let one : members g.B.Make.parameter_means c.push.new.self.items ≡ tree.more tree.none (g.B.Make.parameter_means c.in_ok-first.first) = ap (members g.B.Make.parameter_means) (c.in_ok-push.ensures.items ∙ ap (λ z. z ++ c.in_ok-first.first ∷ []) c.new-found.ensures.items) in
+    let one : members g.B.Make.parameter_means c.in_ok-found.found.items ≡ tree.more tree.none (g.B.Make.parameter_means c.in_ok-first.first) = ap (members g.B.Make.parameter_means) c.in_ok-found.ensures in
     record {
       reads = λ d b k. read_as _ _ (renamed n.0 >> (c.in_ok-first.ensures.reads d _ _ _ _ _ k (still n.0 n.1)).comes _ refl) one (ap (λ z. start z.items) (sym n.0));
       filled = λ e. absurd (let w : tree.more tree.none (g.B.Make.parameter_means c.in_ok-first.first) ≡ tree.none = sym one ∙ e in (cc));
@@ -896,7 +896,7 @@ pub parameters::lambda_parameters-loop-found-preserved : goal.parameters::lambda
 parameters::lambda_parameters-loop-found-preserved g met c =
     let p = read_it _ _ comma _ c.if-not-branch.false c.in_ok-accept-2.ensures in
     let n = left_it _ _ colon _ c.if-branch-2.false c.in_ok-accept-3.ensures in
-    let one : members g.B.Make.parameter_means c.push-in-loop-found.new.self.items ≡ tree.more (members g.B.Make.parameter_means c.loop-found.found.items) (g.B.Make.parameter_means c.in_ok-next.next) = ap (members g.B.Make.parameter_means) c.in_ok-push-2.ensures.items ∙ one_more g.B.Make.parameter_means c.loop-found.found.items c.in_ok-next.next in
+    let one : members g.B.Make.parameter_means c.push.new.list.items ≡ tree.more (members g.B.Make.parameter_means c.loop-found.found.items) (g.B.Make.parameter_means c.in_ok-next.next) = ap (members g.B.Make.parameter_means) c.in_ok-push.ensures.items ∙ one_more g.B.Make.parameter_means c.loop-found.found.items c.in_ok-next.next in
     record {
       reads = λ d b k. read_as _ _ (c.loop-found.invariant.reads d b k >> goes p refl refl >> renamed n.0 >> (c.in_ok-next.ensures.reads d _ _ _ _ _ k (still n.0 n.1)).comes _ refl) one (sym (first_kept _ _ _ c.loop-found.invariant.filled));
       filled = λ e. absurd (let w : tree.more (members g.B.Make.parameter_means c.loop-found.found.items) (g.B.Make.parameter_means c.in_ok-next.next) ≡ tree.none = sym one ∙ e in (cc));

@@ -1,4 +1,4 @@
-use Rattle.std.proofs.Common.{◌≡◌, ◌∙◌, refl, ap, sym, rules, arith, length, string_bytes, ap₂}
+use Rattle.std.proofs.Common.{◌≡◌, ◌∙◌, refl, ap, sym, rules, arith, length, string_bytes}
 use Rattle.starlark_ast.specs.Tree.{add_statement, define, either, name_at, no_statements, repeat, when}
 use Rattle.starlark_ast.specs.View.{members}
 use Rattle.starlark_lexer.specs.Items.{keyword_def, keyword_elif, keyword_else, keyword_for, keyword_if, newline}
@@ -208,7 +208,7 @@ suite::lines-loop-statements-preserved g met c =
     let l = is_line _ (sym c.begins_line.ensures ∙ c.if-begins_line.true) in
     let v = c.loop-statements.invariant in
     let ss = sequence_of g.B.Build.says c.loop-statements.statements.items in
-    let one : sequence_of g.B.Build.says c.push.new.self.items ≡ add_statement ss (g.B.Build.says c.in_ok-next.next) = statement_more g.B.Build.says _ _ _ c.in_ok-push.ensures.items in
+    let one : sequence_of g.B.Build.says c.push.new.list.items ≡ add_statement ss (g.B.Build.says c.in_ok-next.next) = statement_more g.B.Build.says _ _ _ c.in_ok-push.ensures.items in
     record {
       reads = λ k e. lines_as _ (v.reads k e >> renamed a.0 >> (c.in_ok-next.ensures.reads (inner ss k) c.loop-statements.tokens.last l.0 (still a.0 a.1) l.1).comes _ refl) one;
       empty = λ h. absurd (omega (arith, h, c.in_ok-push.ensures.len));

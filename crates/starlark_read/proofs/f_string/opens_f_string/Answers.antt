@@ -1,7 +1,7 @@
-use Rattle.std.proofs.Common.{refl}
+use Rattle.std.proofs.Common.{refl, rules}
 use Rattle.starlark_read.proofs.Exits.{goes}
-use Rattle.starlark_read.proofs.Gathering.{took}
+use Rattle.starlark_read.proofs.Texts.{quote_there, skipped}
 use Rattle.starlark_read.proofs.f_string.opens_f_string.Goals as goal
 
 pub returns-clause-reads : goal.returns-clause-reads
-returns-clause-reads c d k = goes (took _ _ _ _ _ _ c.in-Some.is c.in-FStringStart.is c.in_ok-token.ensures) refl refl
+returns-clause-reads c d k = goes (skipped _ _ _ _ _ (quote_there c.args.tokens.now.items (search rules)).1 c.in_ok-skip.ensures) refl refl

@@ -1,4 +1,4 @@
-use Rattle.std.proofs.Common.{◌≡◌, [], ◌∷◌, ◌++◌, refl, ap, sym, ◌∙◌, rules, arith}
+use Rattle.std.proofs.Common.{◌≡◌, refl, ap, sym, rules, arith}
 use Rattle.starlark_ast.specs.Tree.{add_statement, no_statements}
 use Rattle.starlark_grammar.specs.Frames.{line, wants_small}
 use Rattle.starlark_grammar.specs.Made.{sequence_of}
@@ -23,7 +23,7 @@ pub loop-statements-init : goal.loop-statements-init
 loop-statements-init g c =
     let f = g.B.Build.says in
     let s = f c.in_ok-first.first in
-    let one : sequence_of f c.push.new.self.items ≡ add_statement no_statements s = ap (sequence_of f) (c.in_ok-push.ensures.items ∙ ap (λ z. z ++ c.in_ok-first.first ∷ []) c.new-statements.ensures.items) in
+    let one : sequence_of f c.in_ok-statements.statements.items ≡ add_statement no_statements s = ap (sequence_of f) c.in_ok-statements.ensures in
     record {
       reads = λ k w. state_is (row_goes_on _ _ c.if-branch.false ((c.in_ok-first.ensures.reads (line no_statements k) w).comes _ refl >> (c.in_ok-row_ends.ensures.reads c.args.dialect s no_statements k).comes _ refl)) (ap (λ ss. wants_small (line ss k)) (sym one));
       begins = c.in_ok-row_ends.ensures.goes_on c.if-branch.false;
@@ -48,7 +48,7 @@ returns-then-branch-2-clause-reads g c k w =
     let v = c.loop-statements.invariant in
     let f = g.B.Build.says in
     let done = sequence_of f c.loop-statements.statements.items in
-    let more = statement_more f _ _ _ c.in_ok-push-2.ensures.items in
+    let more = statement_more f _ _ _ c.in_ok-push.ensures.items in
     gives (row_is k _ _ _ _ _ (row_over _ _ c.if-branch-2.true (v.reads k w >> (c.in_ok-next.ensures.reads (line done k) v.begins).comes _ refl >> (c.in_ok-row_ends-2.ensures.reads c.args.dialect (f c.in_ok-next.next) done k).comes _ refl)) c.block.ensures more c.last.ensures)
 
 pub loop-statements-preserved : goal.loop-statements-preserved
@@ -56,7 +56,7 @@ loop-statements-preserved g c =
     let v = c.loop-statements.invariant in
     let f = g.B.Build.says in
     let done = sequence_of f c.loop-statements.statements.items in
-    let more = statement_more f _ _ _ c.in_ok-push-2.ensures.items in
+    let more = statement_more f _ _ _ c.in_ok-push.ensures.items in
     record {
       reads = λ k w. state_is (row_goes_on _ _ c.if-branch-2.false (v.reads k w >> (c.in_ok-next.ensures.reads (line done k) v.begins).comes _ refl >> (c.in_ok-row_ends-2.ensures.reads c.args.dialect (f c.in_ok-next.next) done k).comes _ refl)) (ap (λ ss. wants_small (line ss k)) (sym more));
       begins = c.in_ok-row_ends-2.ensures.goes_on c.if-branch-2.false;

@@ -31,14 +31,14 @@ pub returns-then-not-branch-2-clause-reads : goal.returns-then-not-branch-2-clau
 returns-then-not-branch-2-clause-reads g c h =
     let n = left_it _ _ closing_round _ c.if-not-branch.true c.in_ok-accept.ensures in
     let m = left_it _ _ comma _ c.if-not-branch-2.true c.in_ok-accept-2.ensures in
-    let one : members g.B.Make.parameter_means c.push.new.self.items ≡ tree.more (members g.B.Make.parameter_means c.loop-found.found.items) (g.B.Make.parameter_means c.in_ok-next.next) = ap (members g.B.Make.parameter_means) c.in_ok-push.ensures.items ∙ one_more g.B.Make.parameter_means c.loop-found.found.items c.in_ok-next.next in
+    let one : members g.B.Make.parameter_means c.push.new.list.items ≡ tree.more (members g.B.Make.parameter_means c.loop-found.found.items) (g.B.Make.parameter_means c.in_ok-next.next) = ap (members g.B.Make.parameter_means) c.in_ok-push.ensures.items ∙ one_more g.B.Make.parameter_means c.loop-found.found.items c.in_ok-next.next in
     gives (results_are _ (c.loop-found.invariant.reads h >> renamed n.0 >> (c.in_ok-next.ensures.reads h _ (still n.0 n.1)).comes _ refl >> renamed m.0 >> goes c.in_ok-expect-2.ensures.read refl refl) one)
 
 pub loop-found-preserved : goal.loop-found-preserved
 loop-found-preserved g c =
     let n = left_it _ _ closing_round _ c.if-not-branch.true c.in_ok-accept.ensures in
     let p = read_it _ _ comma _ c.if-not-branch-2.false c.in_ok-accept-2.ensures in
-    let one : members g.B.Make.parameter_means c.push.new.self.items ≡ tree.more (members g.B.Make.parameter_means c.loop-found.found.items) (g.B.Make.parameter_means c.in_ok-next.next) = ap (members g.B.Make.parameter_means) c.in_ok-push.ensures.items ∙ one_more g.B.Make.parameter_means c.loop-found.found.items c.in_ok-next.next in
+    let one : members g.B.Make.parameter_means c.push.new.list.items ≡ tree.more (members g.B.Make.parameter_means c.loop-found.found.items) (g.B.Make.parameter_means c.in_ok-next.next) = ap (members g.B.Make.parameter_means) c.in_ok-push.ensures.items ∙ one_more g.B.Make.parameter_means c.loop-found.found.items c.in_ok-next.next in
     record {
       reads = λ h. params_are _ (c.loop-found.invariant.reads h >> renamed n.0 >> (c.in_ok-next.ensures.reads h _ (still n.0 n.1)).comes _ refl >> goes p refl refl) one;
       shorter = omega (arith, c.loop-found.invariant.shorter, ap length p.items, ap (λ z. length z.items) n.0, c.in_ok-next.ensures.shorter);
