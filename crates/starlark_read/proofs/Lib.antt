@@ -17,6 +17,7 @@ pub mod Branching
 pub mod Suites
 pub mod Loading
 pub mod Rows
+pub mod Cleaning
 pub mod Signing
 pub mod Answering
 pub mod Asking

@@ -1,6 +1,6 @@
 //! The statements of a whole text.
 
-ghost use Rattle.std.specs.Prelude.{◌≡◌, ℕ, [], None, true, IfOk};
+ghost use Rattle.std.specs.Prelude.{◌≡◌, ◌≢◌, ℕ, [], None, true, false, IfOk};
 ghost use Rattle.starlark_ast.specs.Tree.{no_statements};
 ghost use Rattle.starlark_grammar.specs.Events.{end_finding};
 ghost use Rattle.starlark_grammar.specs.Frames.{at_line, outer};
@@ -20,7 +20,7 @@ use std::alloc::{AllocError, Global};
 /// The statements of a text.
 pub(crate) struct TopStatements<S> {
     pub(crate) items: Vec<S>,
-    /// Each of them was looked at, and breaks no rule that counts at the end.
+    /// Whether none of them breaks a rule that counts at the end.
     pub(crate) are_clean: bool,
 }
 
@@ -33,6 +33,7 @@ pub(crate) fn statements<B: Build>(
     ensures reads { Comes dialect (at_line (outer no_statements) tokens.old.last) (λ xs. at_line (outer (sequence_of B.says xs.items.items)) tokens.new.last) tokens.old result tokens.new }
     ensures whole { IfOk result (λ xs. tokens.new.items ≡ []) }
     ensures clean { IfOk result (λ xs. xs.are_clean ≡ true → (e : ℕ) → end_finding dialect (block_of (sequence_of B.says xs.items.items) e) ≡ None) }
+    ensures unclean { IfOk result (λ xs. xs.are_clean ≡ false → (e : ℕ) → end_finding dialect (block_of (sequence_of B.says xs.items.items) e) ≢ None) }
 {
     let mut found = Vec::new(tokens.alloc());
     let mut are_clean = true;
@@ -64,7 +65,8 @@ fn still_clean<B: Build>(
     before: bool,
     s: &B::Stmt,
 ) -> Result<bool, AllocError>
-    ensures { IfOk result (λ b. b ≡ true → (before ≡ true) × (end_finding dialect (B.says s.now) ≡ None)) }
+    ensures clean { IfOk result (λ b. b ≡ true → (before ≡ true) × (end_finding dialect (B.says s.now) ≡ None)) }
+    ensures unclean { IfOk result (λ b. b ≡ false → before ≡ true → end_finding dialect (B.says s.now) ≢ None) }
 {
     if !before {
         return Ok(false);
